@@ -1,0 +1,4 @@
+pub mod Listed
+pub mod Padded
+pub mod Values
+pub mod Folded

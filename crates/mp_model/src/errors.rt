@@ -1,0 +1,19 @@
+//! The one free answer.
+
+use std::alloc::{AllocError, AllocFailed};
+
+/// There was no memory. Every call that takes memory may answer it, and what stands after it is said at each call.
+#[derive(Clone, Copy, Debug, PartialEq, Eq)]
+pub struct Memory;
+
+impl From<AllocError> for Memory {
+    fn from(_: AllocError) -> Self {
+        Memory
+    }
+}
+
+impl<T: Drop> From<AllocFailed<T>> for Memory {
+    fn from(_: AllocFailed<T>) -> Self {
+        Memory
+    }
+}
