@@ -1,0 +1,12 @@
+//! The script language: what a script is, how its bytes spell it, and which transcripts answer it rightly. It hides how
+//! scripts are read.
+#![tactic(auto)]
+
+mod reading;
+mod statements;
+#[cfg(test)]
+mod tests;
+mod words;
+
+pub use reading::{ScriptRefusal, parse};
+pub use statements::{Line, Lines, Script, SessionOn, Sessions, Stmt};
