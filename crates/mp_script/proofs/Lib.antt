@@ -4,3 +4,16 @@ pub mod PlainWords
 pub mod StmtWords
 pub mod FirstFormLaws
 pub mod FirstScripts
+pub mod Histories
+pub mod Lists
+pub mod Lookups
+pub mod PlainAll
+pub mod PlainBegin
+pub mod PlainCase
+pub mod PlainGood
+pub mod PlainInside
+pub mod PlainLegal
+pub mod PlainNext
+pub mod PlainNumbers
+pub mod PlainStep
+pub mod PlainRuns

@@ -2,3 +2,12 @@ pub mod Text
 pub mod Words
 pub mod Spelling
 pub mod FirstForm
+pub mod Told
+pub mod Transactions
+pub mod Seen
+pub mod Right
+pub mod Below
+pub mod Legal
+pub mod Example
+pub mod Plain
+pub mod PlainState

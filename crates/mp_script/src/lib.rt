@@ -2,11 +2,15 @@
 //! scripts are read.
 #![tactic(auto)]
 
+mod examples;
+mod plain;
 mod reading;
 mod statements;
 #[cfg(test)]
 mod tests;
 mod words;
 
+pub use examples::law_examples;
+pub use plain::answer_plainly;
 pub use reading::{ScriptRefusal, parse};
 pub use statements::{Line, Lines, Script, SessionOn, Sessions, Stmt};

@@ -1,0 +1,121 @@
+-- Each statement's answer is right where it stands, and what is kept is kept on.
+use Rattle.std.proofs.Common.{◌≡◌, ◌≢◌, ℕ, zero, suc, ◌+◌, ◌-◌, ◌<◌, ◌≤◌, nat_le, max, Bool, true, false, List, [], ◌∷◌, ◌++◌, Option, Some, None, filter, refl, sym, ap, subst, ◌∙◌, ◌⊎◌, inl, inr, arith, ◌==◌, ◌||◌, ◌&&◌, if◌then◌else◌}
+use mathlib.Core.Bool.{false≢true}
+use Rattle.std.specs.Prelude.{IfSome, take}
+use Rattle.std.specs.List.{AllByRecursion, list_any, filter_map}
+use Rattle.std.proofs.lemmas.Bool.{cases_lt}
+use Rattle.std.proofs.lemmas.Bool.Decides.{nat_tests}
+use Rattle.std.proofs.lemmas.List.{append-nil, append_assoc}
+use Rattle.std.proofs.lemmas.List.Elements.{filter_map-append}
+use Rattle.mp_model.specs.declared.ids.TrxName.{TrxName}
+use Rattle.mp_model.specs.declared.key_value.KeyValue.{KeyValue}
+use Rattle.mp_model.specs.declared.key_value.KeyWrite.{KeyWrite}
+use Rattle.mp_model.specs.declared.replies.Answer.{Answer}
+use Rattle.mp_model.specs.declared.replies.Reply.{Reply}
+use Rattle.mp_model.specs.declared.replies.Reply.TheVariants.{Began, Got, Scanned, Wrote, Committed, CommittedNone, Unknown, RolledBack, Conflict, Held, Full, Skipped, Stopped}
+use Rattle.mp_model.specs.declared.transcripts.Mode.TheVariants.{Step as StepMode}
+use Rattle.mp_model.specs.Folded.{over, before, value_at}
+use Rattle.mp_script.specs.declared.statements.Line.{Line}
+use Rattle.mp_script.specs.declared.statements.Stmt.{Stmt}
+use Rattle.mp_script.specs.declared.statements.Stmt.TheVariants.{Begin, Get, Put, Del, Copy, Scan, Commit, Rollback}
+use Rattle.mp_script.specs.Told.{Told, line_at, stmt_at, reply_at}
+use Rattle.mp_script.specs.Transactions.{begins, begin_of, trx_at, trx_of, same_trx, view_in, view_of, number_of, acknowledged_number, is_number, is_wrote, is_refusal, target_of, wrote_at, wrote_before, refused_before}
+use Rattle.mp_script.specs.Seen.{write_by, writes_among, own_writes, acknowledgement, history}
+use Rattle.mp_script.specs.Right.{IsRight}
+use Rattle.mp_script.specs.Below.{numbers, greatest, from_first}
+use Rattle.mp_script.specs.Legal.{IsAboveItsView, IsInRange, SeesAbove, SeesEarlierCommits, HoldsItsKeys, shows_down}
+use Rattle.mp_script.specs.Spelling.{MayStand, open_after}
+use Rattle.mp_script.specs.Plain.{Plain, shown, after, number_after, commit_reply, IsReplyTo}
+use Rattle.mp_script.proofs.Lists.{all_append, all_map, all_always, all_from_first, from_first_append, greatest_more, find_behind}
+use Rattle.mp_script.proofs.Histories.{history_later, history_next}
+use Rattle.mp_script.proofs.PlainCase.{Opened, WhileOpen, Agrees, Step, follows_by, no_waits}
+use Rattle.mp_script.proofs.PlainStep.{begin_begins, inside_trx, inside_own, inside_refused, inside_reply, goes_on}
+
+-- an answer is right, and stands rightly below those above it
+pub record Good (told : Told) (above : List Answer) (answer : Answer) : Type 0 where
+  pub right : IsRight told answer
+  pub above_view : IsAboveItsView told answer
+  pub in_range : IsInRange told answer
+  pub sees : SeesAbove StepMode told.opening.base above answer
+  pub earlier : SeesEarlierCommits told above answer
+  pub holds : HoldsItsKeys told above answer
+  pub calm : shows_down answer.reply ≡ false
+  pub calm_above : AllByRecursion (λ a. shows_down a.reply ≡ false) above
+  pub next : (number : ℕ) → number_of answer.reply ≡ Some number → number ≡ view_of told (trx_of told answer) + 1
+
+-- a `begin` is numbered at most as its statement
+pub begin_within : (told : Told) (session index : ℕ) → begin_of told session index ≤ index
+begin_within told session zero = omega arith
+begin_within told session (suc index) = go (begins (stmt_at told session (suc index))) refl (begin_within told session index)
+  where
+    go : (b : Bool) → begins (stmt_at told session (suc index)) ≡ b → begin_of told session index ≤ index → begin_of told session (suc index) ≤ suc index
+    go true e le = rw e (omega arith)
+    go false e le = rw e (omega arith)
+
+-- so an earlier statement is of another transaction than the one that begins now
+pub earlier_trx : (told : Told) (session count : ℕ) (answer : Answer) → answer.index ≤ count → same_trx (trx_of told answer) (record { session = session; first = suc count }) ≡ false
+earlier_trx told session count answer le =
+    let within : begin_of told answer.session answer.index ≤ answer.index = begin_within told answer.session answer.index in
+    let apart : (begin_of told answer.session answer.index == suc count) ≡ false = grind (arith, nat_tests) in
+    rw apart (and_false (answer.session == session))
+  where
+    and_false : (b : Bool) → (b && false) ≡ false
+    and_false true = refl
+    and_false false = refl
+
+-- a number above all those shown acknowledges nothing
+pub unacknowledged : (reply : Reply) (bound number : ℕ) → IfSome (number_of reply) (λ n. n ≤ bound) → bound < number → is_number number (acknowledged_number reply) ≡ false
+unacknowledged (Committed n) bound number le lt = grind (arith, nat_tests)
+unacknowledged (Began view) bound number le lt = refl
+unacknowledged (Got value) bound number le lt = refl
+unacknowledged (Scanned rows) bound number le lt = refl
+unacknowledged (Wrote verb) bound number le lt = refl
+unacknowledged CommittedNone bound number le lt = refl
+unacknowledged (Unknown n) bound number le lt = refl
+unacknowledged RolledBack bound number le lt = refl
+unacknowledged (Conflict verb n) bound number le lt = refl
+unacknowledged (Held verb name) bound number le lt = refl
+unacknowledged (Full verb) bound number le lt = refl
+unacknowledged Skipped bound number le lt = refl
+unacknowledged (Stopped by) bound number le lt = refl
+
+-- an acknowledged number is a number
+pub acknowledged_is : (reply : Reply) (bound number : ℕ) → IfSome (number_of reply) (λ n. n ≤ bound) → acknowledged_number reply ≡ Some number → number ≤ bound
+acknowledged_is (Committed n) bound number le is = let e : n ≡ number = cc in omega (arith, le, e)
+acknowledged_is (Began view) bound number le is = cc
+acknowledged_is (Got value) bound number le is = cc
+acknowledged_is (Scanned rows) bound number le is = cc
+acknowledged_is (Wrote verb) bound number le is = cc
+acknowledged_is CommittedNone bound number le is = cc
+acknowledged_is (Unknown n) bound number le is = cc
+acknowledged_is RolledBack bound number le is = cc
+acknowledged_is (Conflict verb n) bound number le is = cc
+acknowledged_is (Held verb name) bound number le is = cc
+acknowledged_is (Full verb) bound number le is = cc
+acknowledged_is Skipped bound number le is = cc
+acknowledged_is (Stopped by) bound number le is = cc
+
+-- a reply that shows no number and no primary that went down
+pub record Quiet (reply : Reply) : Type 0 where
+  pub no_number : number_of reply ≡ None
+  pub not_acknowledged : acknowledged_number reply ≡ None
+  pub calm : shows_down reply ≡ false
+
+pub quiet_by : (plain : Plain) (stmt : Stmt) (reply : Reply) → plain.own ≡ [] ⊎ (stmt ≢ Commit) → IsReplyTo plain stmt reply → Quiet reply
+quiet_by plain Begin reply may h = rw h (record { no_number = refl; not_acknowledged = refl; calm = refl })
+quiet_by plain (Get key) reply may h = rw h (record { no_number = refl; not_acknowledged = refl; calm = refl })
+quiet_by plain (Put key value) reply may h = rw h (record { no_number = refl; not_acknowledged = refl; calm = refl })
+quiet_by plain (Del key) reply may h = rw h (record { no_number = refl; not_acknowledged = refl; calm = refl })
+quiet_by plain (Copy from to) reply may h = rw h (record { no_number = refl; not_acknowledged = refl; calm = refl })
+quiet_by plain (Scan low most) reply may h = rw h.1 (record { no_number = refl; not_acknowledged = refl; calm = refl })
+quiet_by plain Commit reply (inl none) h = rw (h, none) (record { no_number = refl; not_acknowledged = refl; calm = refl })
+quiet_by plain Commit reply (inr other) h = absurd (other refl)
+quiet_by plain Rollback reply may h = rw h (record { no_number = refl; not_acknowledged = refl; calm = refl })
+
+-- one more answer shows no number more
+pub numbers_quiet : (above : List Answer) (answer : Answer) → number_of answer.reply ≡ None → numbers (above ++ answer ∷ []) ≡ numbers above
+numbers_quiet above answer none = filter_map-append (λ (a : Answer). number_of a.reply) above (answer ∷ []) ∙ ap (λ more. numbers above ++ more) (rw none refl) ∙ append-nil (numbers above)
+
+-- or one
+pub numbers_more : (above : List Answer) (answer : Answer) (number : ℕ) → number_of answer.reply ≡ Some number → numbers (above ++ answer ∷ []) ≡ numbers above ++ number ∷ []
+numbers_more above answer number some = filter_map-append (λ (a : Answer). number_of a.reply) above (answer ∷ []) ∙ ap (λ more. numbers above ++ more) (rw some refl)

@@ -1,0 +1,74 @@
+-- What is kept after a statement of the open transaction.
+use Rattle.std.proofs.Common.{◌≡◌, ◌≢◌, ℕ, zero, suc, ◌+◌, ◌-◌, ◌<◌, ◌≤◌, nat_le, max, Bool, true, false, List, [], ◌∷◌, ◌++◌, Option, Some, None, filter, refl, sym, ap, subst, ◌∙◌, ◌⊎◌, inl, inr, arith, ◌==◌, ◌||◌, ◌&&◌, if◌then◌else◌}
+use mathlib.Core.Bool.{false≢true}
+use Rattle.std.specs.Prelude.{IfSome, take}
+use Rattle.std.specs.List.{AllByRecursion, list_any, filter_map}
+use Rattle.std.proofs.lemmas.Bool.{cases_lt}
+use Rattle.std.proofs.lemmas.Bool.Decides.{nat_tests}
+use Rattle.std.proofs.lemmas.List.{append-nil, append_assoc}
+use Rattle.std.proofs.lemmas.List.Elements.{filter_map-append}
+use Rattle.mp_model.specs.declared.ids.TrxName.{TrxName}
+use Rattle.mp_model.specs.declared.key_value.KeyValue.{KeyValue}
+use Rattle.mp_model.specs.declared.key_value.KeyWrite.{KeyWrite}
+use Rattle.mp_model.specs.declared.replies.Answer.{Answer}
+use Rattle.mp_model.specs.declared.replies.Reply.{Reply}
+use Rattle.mp_model.specs.declared.replies.Reply.TheVariants.{Began, Got, Scanned, Wrote, Committed, CommittedNone, Unknown, RolledBack, Conflict, Held, Full, Skipped, Stopped}
+use Rattle.mp_model.specs.declared.transcripts.Mode.TheVariants.{Step as StepMode}
+use Rattle.mp_model.specs.Folded.{over, before, value_at}
+use Rattle.mp_script.specs.declared.statements.Line.{Line}
+use Rattle.mp_script.specs.declared.statements.Stmt.{Stmt}
+use Rattle.mp_script.specs.declared.statements.Stmt.TheVariants.{Begin, Get, Put, Del, Copy, Scan, Commit, Rollback}
+use Rattle.mp_script.specs.Told.{Told, line_at, stmt_at, reply_at}
+use Rattle.mp_script.specs.Transactions.{begins, begin_of, trx_at, trx_of, same_trx, view_in, view_of, number_of, acknowledged_number, is_number, is_wrote, is_refusal, target_of, wrote_at, wrote_before, refused_before}
+use Rattle.mp_script.specs.Seen.{write_by, writes_among, own_writes, acknowledgement, history}
+use Rattle.mp_script.specs.Right.{IsRight}
+use Rattle.mp_script.specs.Below.{numbers, greatest, from_first}
+use Rattle.mp_script.specs.Legal.{IsAboveItsView, IsInRange, SeesAbove, SeesEarlierCommits, HoldsItsKeys, shows_down}
+use Rattle.mp_script.specs.Spelling.{MayStand, open_after}
+use Rattle.mp_script.specs.Plain.{Plain, shown, after, number_after, commit_reply, IsReplyTo}
+use Rattle.mp_script.proofs.Lists.{all_append, all_map, all_always, all_from_first, from_first_append, greatest_more, find_behind}
+use Rattle.mp_script.proofs.Histories.{history_later, history_next}
+use Rattle.mp_script.proofs.PlainCase.{Opened, WhileOpen, Agrees, Step, follows_by, no_waits}
+use Rattle.mp_script.proofs.PlainStep.{begin_begins, inside_trx, inside_own, inside_refused, inside_reply, goes_on}
+use Rattle.mp_script.proofs.PlainGood.{Good, Quiet, quiet_by, unacknowledged, numbers_more}
+use Rattle.mp_script.proofs.PlainBegin.{bounded_more, kept_quiet}
+use Rattle.mp_script.proofs.PlainInside.{begins_not}
+
+module _ (told : Told) (session : ℕ) (above : List Answer) (count : ℕ) (plain : Plain) (agrees : Agrees told session above true count plain) (line : Line) (answer : Answer) (step : Step told session count line answer) (may : MayStand true line.stmt) (reply : IsReplyTo plain line.stmt answer.reply) where
+  -- the transaction goes on
+  pub going : (next : Plain) → next ≡ record { committed = plain.committed; number = plain.number; own = plain.own ++ write_by (shown plain) (Some line.stmt) } → line.stmt ≢ Commit → Agrees told session (above ++ answer ∷ []) true (suc count) next
+  going next is other = rw is (kept_quiet told session above true count plain agrees answer step.index_is (quiet_by plain line.stmt answer.reply (inr other) reply) true _ refl refl (goes_on told session count above plain agrees line answer step (begins_not line.stmt may) reply))
+
+  -- it ends without a commit number
+  pub ended : (next : Plain) → next ≡ record { committed = plain.committed; number = plain.number; own = [] } → plain.own ≡ [] ⊎ (line.stmt ≢ Commit) → Agrees told session (above ++ answer ∷ []) false (suc count) next
+  ended next is quiet = rw is (kept_quiet told session above true count plain agrees answer step.index_is (quiet_by plain line.stmt answer.reply quiet reply) false _ refl refl refl)
+
+  -- it commits its writes
+  pub committing : (rest : List Answer) → told.answers ≡ above ++ answer ∷ rest → answer.reply ≡ Committed (plain.number + 1) → plain.number + 1 ≤ told.opening.base + told.commits → Agrees told session (above ++ answer ∷ []) false (suc count) (record { committed = shown plain; number = plain.number + 1; own = [] })
+  committing rest all commits room = record {
+    made = suc agrees.made;
+    in_range = omega (arith, agrees.number);
+    number = omega (arith, agrees.number);
+    committed = history_next told told.opening.rows.items agrees.made answer acknowledged ∙ rows_next;
+    bounded = all_append (λ (a : Answer). IfSome (number_of a.reply) (λ n. n ≤ plain.number + 1)) above (answer ∷ []) (bounded_more above plain.number (plain.number + 1) (omega arith) agrees.bounded) (rw commits (omega arith), tt);
+    latest = rw (numbers_more above answer (plain.number + 1) (rw commits refl)) (greatest_more told.opening.base (numbers above) (plain.number + 1) (rw agrees.latest (omega arith)));
+    lower = all_append (λ (a : Answer). a.index ≤ suc count) above (answer ∷ []) (all_map (λ (a : Answer). a.index ≤ count) (λ a. a.index ≤ suc count) above (λ a le. omega arith) agrees.lower) (omega (arith, step.index_is), tt);
+    calm = all_append (λ (a : Answer). shows_down a.reply ≡ false) above (answer ∷ []) agrees.calm (rw commits refl, tt);
+    opened = refl;
+  }
+    where
+      next_is : told.opening.base + suc agrees.made ≡ plain.number + 1
+      next_is = omega (arith, agrees.number)
+
+      acknowledged : acknowledgement told.answers (told.opening.base + suc agrees.made) ≡ Some answer
+      acknowledged = rw all (find_behind (λ (a : Answer). is_number (told.opening.base + suc agrees.made) (acknowledged_number a.reply)) above answer rest
+          (all_map (λ (a : Answer). IfSome (number_of a.reply) (λ n. n ≤ plain.number)) (λ a. is_number (told.opening.base + suc agrees.made) (acknowledged_number a.reply) ≡ false) above (λ a le. unacknowledged a.reply plain.number (told.opening.base + suc agrees.made) le (omega (arith, agrees.number))) agrees.bounded)
+          (rw commits (let e : plain.number + 1 ≡ told.opening.base + suc agrees.made = omega (arith, agrees.number) in grind (arith, nat_tests))))
+
+      rows_next : over (before told.opening.rows.items (history told agrees.made) (told.opening.base + agrees.made)) (own_writes told (before told.opening.rows.items (history told agrees.made) (view_of told (trx_of told answer))) (trx_of told answer) answer.index) ≡ shown plain
+      rows_next =
+          ap (λ trx. over (before told.opening.rows.items (history told agrees.made) (told.opening.base + agrees.made)) (own_writes told (before told.opening.rows.items (history told agrees.made) (view_of told trx)) trx answer.index)) (inside_trx told session count above plain agrees line answer step (begins_not line.stmt may) reply)
+          ∙ ap (λ view. over (before told.opening.rows.items (history told agrees.made) (told.opening.base + agrees.made)) (own_writes told (before told.opening.rows.items (history told agrees.made) view) (record { session = session; first = agrees.opened.first }) answer.index)) (agrees.opened.view ∙ agrees.number)
+          ∙ ap (λ rows. over rows (own_writes told rows (record { session = session; first = agrees.opened.first }) answer.index)) agrees.committed
+          ∙ ap (λ index. over plain.committed (own_writes told plain.committed (record { session = session; first = agrees.opened.first }) index)) step.index_is
+          ∙ ap (λ own. over plain.committed own) (inside_own told session count above plain agrees line answer step (begins_not line.stmt may) reply)

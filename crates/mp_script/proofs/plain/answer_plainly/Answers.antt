@@ -1,0 +1,29 @@
+-- The answers of one session on a plain list are legal.
+use Rattle.std.proofs.Common.{◌≡◌, ◌-◌, ◌≤◌, Ok, Err, IfOk, Result, ◌∙◌, sym, ap, subst, arith}
+use Rattle.mp_model.specs.declared.transcripts.Transcript.{Transcript}
+use Rattle.mp_model.specs.declared.errors.Memory.{Memory}
+use Rattle.mp_script.specs.Legal.{Legal}
+use Rattle.mp_script.specs.Plain.{AreAnswersTo, number_at_end}
+use Rattle.mp_script.specs.PlainState.{start, IsPlainTranscript}
+use Rattle.mp_script.proofs.PlainNumbers.{end_rises}
+use Rattle.mp_script.proofs.PlainLegal.{plain_legal}
+use Rattle.mp_script.proofs.plain.answer_plainly.Goals as goal
+
+pub overflow_sub-commits : goal.overflow_sub-commits
+overflow_sub-commits c = rw (c.in_ok-answers.ensures.number, c.in_ok-session.ensures.state) (end_rises (start c.args.opening.now) c.as_slice.result.now)
+
+pub returns : goal.returns
+returns c = go c.transcript_of.result c.transcript_of.ensures
+  where
+    rises : c.args.opening.now.base ≤ c.answer_all.new.self.number
+    rises = rw (c.in_ok-answers.ensures.number, c.in_ok-session.ensures.state) (end_rises (start c.args.opening.now) c.as_slice.result.now)
+
+    answers_are : AreAnswersTo (start c.args.opening.now) c.args.script.now.lines.items c.in_ok-answers.answers.items
+    answers_are = rw (← c.in_ok-session.ensures.state, ← c.as_slice.ensures) c.in_ok-answers.ensures.answers
+
+    number_is : c.answer_all.new.self.number ≡ number_at_end (start c.args.opening.now) c.args.script.now.lines.items
+    number_is = rw (← c.in_ok-session.ensures.state, ← c.as_slice.ensures) c.in_ok-answers.ensures.number
+
+    go : (r : Result Transcript Memory) → IfOk r (IsPlainTranscript c.args.opening.now.base c.in_ok-answers.answers (c.answer_all.new.self.number - c.args.opening.now.base)) → IfOk r (Legal c.args.script.now c.args.opening.now)
+    go (Ok transcript) is = plain_legal c.args.script.now c.args.opening.now transcript c.in_ok-answers.answers 1 is.mode is.from is.part is.downs (omega (arith, is.count, number_is, rises)) c.requires.numbered c.requires.runs answers_are
+    go (Err e) is = tt
