@@ -1,0 +1,154 @@
+//! The texts of a run of each mode, and of each reply.
+
+use crate::print_transcript;
+use mp_model::{
+    Answer, Answers, Down, Downs, KeyValue, Memory, Mode, Names, Part, Parts, Reply, Rows,
+    Transcript, TrxName, Value, WriteVerb,
+};
+use std::alloc::Global;
+use std::test::Fail;
+
+// A part with these answers of session 1 in a row.
+fn part(alloc: Global, primary: u8, replies: Vec<Reply>) -> Result<Part, Memory> {
+    let mut answers = Answers::new(alloc);
+    let mut index = 0u32;
+    for reply in replies {
+        index = index.wrapping_add(1);
+        let waits = Names::new(alloc);
+        answers.push(Answer {
+            session: 1,
+            index,
+            reply,
+            waits,
+        })?;
+    }
+    Ok(Part { primary, answers })
+}
+
+#[test]
+fn one_session_in_steps(rt: HostRuntime) -> Result<(), Fail> {
+    let alloc = rt.alloc();
+    let a = Value::read(b"a").ok_or("a value")?;
+    let replies = vec![in alloc;
+        Reply::Began(0),
+        Reply::Wrote(WriteVerb::Put),
+        Reply::Got(Some(a)),
+        Reply::Committed(1),
+    ]?;
+    let mut parts = Parts::new(alloc);
+    parts.push(part(alloc, 0, replies)?)?;
+    let transcript = Transcript {
+        mode: Mode::Step,
+        base: 0,
+        parts,
+        downs: Downs::new(alloc),
+        commits: 1,
+    };
+    let text =
+        b"transcript step base 0\ns1.1 begin 0\ns1.2 put ok\ns1.3 get a\ns1.4 commit 1\nend commits 1\n";
+    assert_eq!(rt;
+        print_transcript(alloc, &transcript)?.as_slice(),
+        text.as_slice()
+    );
+    Ok(())
+}
+
+#[test]
+fn two_primaries_of_which_one_went_down(rt: HostRuntime) -> Result<(), Fail> {
+    let alloc = rt.alloc();
+    let mut waits = Names::new(alloc);
+    waits.push(TrxName {
+        session: 2,
+        first: 1,
+    })?;
+    waits.push(TrxName {
+        session: 64,
+        first: 10_000,
+    })?;
+    let mut waiting = Answers::new(alloc);
+    waiting.push(Answer {
+        session: 1,
+        index: 2,
+        reply: Reply::Conflict(WriteVerb::Put, 9),
+        waits,
+    })?;
+    let mut parts = Parts::new(alloc);
+    parts.push(Part {
+        primary: 1,
+        answers: waiting,
+    })?;
+    parts.push(part(
+        alloc,
+        2,
+        vec![in alloc; Reply::Unknown(9), Reply::Stopped(2)]?,
+    )?)?;
+    let mut downs = Downs::new(alloc);
+    downs.push(Down { primary: 2, by: 2 })?;
+    let transcript = Transcript {
+        mode: Mode::Run,
+        base: 8,
+        parts,
+        downs,
+        commits: 1,
+    };
+    let text =
+        b"transcript run base 8\nprimary 1\ns1.2 put conflict 9 after s2.1 s64.10000\nprimary 2\ns1.1 commit unknown 9\ns1.2 stopped 2\ndown 2 by 2\nend commits 1\n";
+    assert_eq!(rt;
+        print_transcript(alloc, &transcript)?.as_slice(),
+        text.as_slice()
+    );
+    Ok(())
+}
+
+#[test]
+fn each_reply_has_its_text(rt: HostRuntime) -> Result<(), Fail> {
+    let alloc = rt.alloc();
+    let last = u64::MAX;
+    let name = TrxName {
+        session: 2,
+        first: 1,
+    };
+    let value = Value::read(b"~!=x").ok_or("a value")?;
+    let mut rows = Rows::new(alloc);
+    rows.push(KeyValue { key: 0, value })?;
+    rows.push(KeyValue {
+        key: 4_294_967_295,
+        value,
+    })?;
+    let table = [
+        (Reply::Began(last), "begin 18446744073709551615"),
+        (Reply::Got(Some(value)), "get ~!=x"),
+        (Reply::Got(None), "get no row"),
+        (Reply::Scanned(Rows::new(alloc)), "scan 0"),
+        (Reply::Scanned(rows), "scan 2 0=~!=x 4294967295=~!=x"),
+        (Reply::Wrote(WriteVerb::Put), "put ok"),
+        (Reply::Wrote(WriteVerb::Del), "del ok"),
+        (Reply::Wrote(WriteVerb::Copy), "copy ok"),
+        (Reply::Committed(10), "commit 10"),
+        (Reply::CommittedNone, "commit none"),
+        (Reply::Unknown(7), "commit unknown 7"),
+        (Reply::RolledBack, "rollback ok"),
+        (Reply::Conflict(WriteVerb::Copy, 7), "copy conflict 7"),
+        (Reply::Held(WriteVerb::Del, name), "del held s2.1"),
+        (Reply::Full(WriteVerb::Put), "put full 4096"),
+        (Reply::Skipped, "skipped"),
+        (Reply::Stopped(8), "stopped 8"),
+    ];
+    for (reply, text) in table {
+        let mut parts = Parts::new(alloc);
+        parts.push(part(alloc, 0, vec![in alloc; reply]?)?)?;
+        let transcript = Transcript {
+            mode: Mode::Step,
+            base: 1,
+            parts,
+            downs: Downs::new(alloc),
+            commits: 0,
+        };
+        let expected = format!(in alloc; "transcript step base 1\ns1.1 {text}\nend commits 0\n")?;
+        assert_eq!(rt;
+            print_transcript(alloc, &transcript)?.as_slice(),
+            expected.as_bytes()
+        );
+    }
+    Ok(())
+}
