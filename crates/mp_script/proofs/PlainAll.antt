@@ -1,53 +1,26 @@
 -- All answers of one session on a plain list are good.
-use Rattle.std.proofs.Common.{◌≡◌, ◌≢◌, ℕ, zero, suc, ◌+◌, ◌-◌, ◌<◌, ◌≤◌, nat_lt, nat_le, max, Bool, true, false, List, [], ◌∷◌, ◌++◌, Option, Some, None, filter, refl, sym, ap, subst, ◌∙◌, ◌⊎◌, inl, inr, arith, ◌==◌, ◌||◌, ◌&&◌, if◌then◌else◌}
-use mathlib.Core.Bool.{false≢true}
-use Rattle.std.specs.Prelude.{IfSome, take}
-use Rattle.std.specs.List.{AllByRecursion, list_any, filter_map}
-use Rattle.std.proofs.lemmas.Bool.{cases_lt}
-use Rattle.std.proofs.lemmas.Bool.Decides.{nat_tests}
-use Rattle.std.proofs.lemmas.List.{append-nil, append_assoc}
-use Rattle.std.proofs.lemmas.List.Elements.{filter_map-append}
-use Rattle.std.proofs.lemmas.List.Sums.{sum_by-cons}
-use Rattle.mp_model.specs.declared.ids.TrxName.{TrxName}
-use Rattle.mp_model.specs.declared.key_value.KeyValue.{KeyValue}
+use Rattle.std.proofs.Common.{◌≡◌, ℕ, suc, ◌+◌, ◌<◌, ◌≤◌, Bool, true, false, List, [], ◌∷◌, ◌++◌, Some, refl, sym, subst, ◌∙◌, inl, inr, arith}
+use Rattle.std.specs.List.{AllByRecursion}
+use Rattle.std.proofs.lemmas.List.{append_assoc}
 use Rattle.mp_model.specs.declared.key_value.KeyWrite.{KeyWrite}
 use Rattle.mp_model.specs.declared.replies.Answer.{Answer}
-use Rattle.mp_model.specs.declared.replies.Reply.{Reply}
-use Rattle.mp_model.specs.declared.replies.Reply.TheVariants.{Began, Got, Scanned, Wrote, Committed, CommittedNone, Unknown, RolledBack, Conflict, Held, Full, Skipped, Stopped}
-use Rattle.mp_model.specs.declared.transcripts.Mode.TheVariants.{Step as StepMode}
-use Rattle.mp_model.specs.Folded.{over, before, value_at}
 use Rattle.mp_script.specs.declared.statements.Line.{Line}
 use Rattle.mp_script.specs.declared.statements.Stmt.{Stmt}
 use Rattle.mp_script.specs.declared.statements.Stmt.TheVariants.{Begin, Get, Put, Del, Copy, Scan, Commit, Rollback}
-use Rattle.mp_script.specs.Told.{Told, line_at, answer_at, stmt_at, reply_at}
-use Rattle.mp_script.specs.Transactions.{begins, begin_of, trx_at, trx_of, same_trx, view_in, view_of, number_of, acknowledged_number, is_number, is_wrote, is_refusal, target_of, wrote_at, wrote_before, refused_before}
-use Rattle.mp_script.specs.Seen.{write_by, writes_among, own_writes, acknowledgement, history}
-use Rattle.mp_script.specs.Right.{IsRight}
-use Rattle.mp_script.specs.Below.{numbers, greatest, from_first}
-use Rattle.mp_script.specs.Legal.{IsAboveItsView, IsInRange, SeesAbove, SeesEarlierCommits, HoldsItsKeys, shows_down}
+use Rattle.mp_script.specs.Told.{Told, line_at, answer_at}
 use Rattle.mp_script.specs.Spelling.{MayStand, open_after}
-use Rattle.mp_script.specs.Plain.{Plain, shown, after, number_after, commit_reply, IsReplyTo}
-use Rattle.mp_script.proofs.Lists.{all_append, all_map, all_always, all_from_first, from_first_append, greatest_more, find_behind}
-use Rattle.mp_script.proofs.Histories.{history_later, history_next}
-use Rattle.mp_script.proofs.PlainCase.{Opened, WhileOpen, Agrees, Step, follows_by, no_waits}
-use Rattle.mp_script.proofs.PlainStep.{begin_begins, inside_trx, inside_own, inside_refused, inside_reply, goes_on}
-use Rattle.std.specs.Prelude.{count_by, map}
-use Rattle.mp_model.specs.declared.histories.Opening.{Opening}
-use Rattle.mp_model.specs.declared.transcripts.Mode.{Mode}
-use Rattle.mp_model.specs.declared.transcripts.Transcript.{Transcript}
-use Rattle.mp_model.specs.Listed.{Listed}
-use Rattle.mp_script.specs.declared.statements.Script.{Script}
-use Rattle.mp_script.specs.Below.{EachBelow, answered, stated}
-use Rattle.mp_script.specs.Legal.{Legal, told_by, all_answers, StaysDown, FirstCommitterWins, IsNamedDown, AreNumberedOnce, is_stopped, same_primary}
+use Rattle.mp_script.specs.Plain.{Plain, shown, after, IsReplyTo}
+use Rattle.mp_script.proofs.Lists.{all_append, all_map}
+use Rattle.mp_script.proofs.PlainCase.{Agrees, Step}
+use Rattle.mp_script.specs.Below.{EachBelow}
 use Rattle.mp_script.specs.Spelling.{Runs}
-use Rattle.mp_script.specs.Plain.{NumberedIn, IsAnswerTo, AreAnswersTo, number_at_end}
-use Rattle.mp_script.proofs.Lists.{below_map, all_from_below}
+use Rattle.mp_script.specs.Plain.{NumberedIn, AreAnswersTo, number_at_end}
 use Rattle.mp_script.proofs.Lookups.{line_found, answer_found}
 use Rattle.mp_script.proofs.PlainGood.{Good}
 use Rattle.mp_script.proofs.PlainBegin.{begin_good, begin_kept}
 use Rattle.mp_script.proofs.PlainInside.{inside_good}
 use Rattle.mp_script.proofs.PlainNext.{going, ended, committing}
-use Rattle.mp_script.proofs.PlainNumbers.{number_rises, end_rises, numbered_once, answered_once}
+use Rattle.mp_script.proofs.PlainNumbers.{end_rises}
 
 -- what is kept holds of the next statement too
 next_agrees : (told : Told) (session : ℕ) (above rest : List Answer) (open_now : Bool) (count : ℕ) (plain : Plain) → Agrees told session above open_now count plain → (line : Line) (answer : Answer) → Step told session count line answer → told.answers ≡ above ++ answer ∷ rest

@@ -1,30 +1,23 @@
 -- One step of a session on a plain list: what it keeps, and why its answer is right.
-use Rattle.std.proofs.Common.{◌≡◌, ◌≢◌, ℕ, zero, suc, ◌+◌, ◌-◌, ◌<◌, ◌≤◌, nat_le, Bool, true, false, List, [], ◌∷◌, ◌++◌, Option, Some, None, filter, refl, sym, ap, subst, ◌∙◌, ◌⊎◌, inl, inr, arith, ◌==◌, ◌||◌, if◌then◌else◌}
-use Rattle.std.specs.Prelude.{IfSome, take, MatchOption}
+use Rattle.std.proofs.Common.{◌≡◌, ℕ, suc, ◌+◌, ◌-◌, ◌≤◌, Bool, true, false, List, [], ◌∷◌, ◌++◌, Option, Some, None, refl, ◌==◌, ◌||◌, if◌then◌else◌}
+use Rattle.std.specs.Prelude.{IfSome, MatchOption}
 use Rattle.std.specs.List.{AllByRecursion, list_any}
-use Rattle.std.proofs.lemmas.Bool.Decides.{nat_tests}
-use Rattle.std.proofs.lemmas.List.{append-nil, append_assoc}
-use Rattle.std.proofs.lemmas.List.Folds.{list_any-append}
 use Rattle.mp_model.specs.declared.ids.TrxName.{TrxName}
 use Rattle.mp_model.specs.declared.key_value.KeyValue.{KeyValue}
 use Rattle.mp_model.specs.declared.key_value.KeyWrite.{KeyWrite}
 use Rattle.mp_model.specs.declared.replies.Answer.{Answer}
 use Rattle.mp_model.specs.declared.replies.Reply.{Reply}
-use Rattle.mp_model.specs.declared.replies.Reply.TheVariants.{Began, Got, Scanned, Wrote, Committed, CommittedNone, RolledBack}
-use Rattle.mp_model.specs.Folded.{over, before, value_at}
+use Rattle.mp_model.specs.Folded.{before}
 use Rattle.mp_script.specs.declared.statements.Line.{Line}
 use Rattle.mp_script.specs.declared.statements.Stmt.{Stmt}
 use Rattle.mp_script.specs.declared.statements.Stmt.TheVariants.{Begin, Get, Put, Del, Copy, Scan, Commit, Rollback}
 use Rattle.mp_script.specs.Told.{Told, line_at, stmt_at, reply_at}
-use Rattle.mp_script.specs.Transactions.{begins, begin_of, trx_at, trx_of, same_trx, view_of, number_of, acknowledged_number, is_number, is_wrote, is_refusal, Target, target_of, target_key, wrote_at, wrote_among, wrote_before, refused_among, refused_before}
-use Rattle.mp_script.specs.Seen.{write_by, write_at, writes_among, own_writes, history, rows_of_view, seen}
-use Rattle.mp_script.specs.Right.{IsRightReply, FollowsRefusal, IsWithoutRepeat, WaitedFor, AreRightWaits, IsRight}
+use Rattle.mp_script.specs.Transactions.{begins, begin_of, trx_of, same_trx, view_of, number_of, is_number, is_wrote, is_refusal, Target, target_key, wrote_among, refused_among}
+use Rattle.mp_script.specs.Seen.{write_by, writes_among, history}
+use Rattle.mp_script.specs.Right.{FollowsRefusal, IsWithoutRepeat, WaitedFor}
 use Rattle.mp_script.specs.Below.{numbers, greatest}
 use Rattle.mp_script.specs.Legal.{shows_down}
-use Rattle.mp_script.specs.Spelling.{MayStand, open_after}
-use Rattle.mp_script.specs.Plain.{Plain, shown, after, number_after, commit_reply, IsReplyTo}
-use Rattle.mp_script.proofs.Lists.{all_append, all_map}
-use Rattle.mp_script.proofs.Histories.{history_later, history_next}
+use Rattle.mp_script.specs.Plain.{Plain, commit_reply, IsReplyTo}
 
 -- what is kept of the open transaction, once count statements are answered
 pub record Opened (told : Told) (session : ℕ) (above : List Answer) (count : ℕ) (plain : Plain) : Type 0 where

@@ -1,35 +1,22 @@
 -- Each statement's answer is right where it stands, and what is kept is kept on.
-use Rattle.std.proofs.Common.{◌≡◌, ◌≢◌, ℕ, zero, suc, ◌+◌, ◌-◌, ◌<◌, ◌≤◌, nat_le, max, Bool, true, false, List, [], ◌∷◌, ◌++◌, Option, Some, None, filter, refl, sym, ap, subst, ◌∙◌, ◌⊎◌, inl, inr, arith, ◌==◌, ◌||◌, ◌&&◌, if◌then◌else◌}
-use mathlib.Core.Bool.{false≢true}
-use Rattle.std.specs.Prelude.{IfSome, take}
-use Rattle.std.specs.List.{AllByRecursion, list_any, filter_map}
-use Rattle.std.proofs.lemmas.Bool.{cases_lt}
+use Rattle.std.proofs.Common.{◌≡◌, ◌≢◌, ℕ, zero, suc, ◌+◌, ◌<◌, ◌≤◌, Bool, true, false, List, [], ◌∷◌, ◌++◌, Some, None, refl, ap, ◌∙◌, ◌⊎◌, inl, inr, arith, ◌==◌, ◌&&◌}
+use Rattle.std.specs.Prelude.{IfSome}
+use Rattle.std.specs.List.{AllByRecursion}
 use Rattle.std.proofs.lemmas.Bool.Decides.{nat_tests}
-use Rattle.std.proofs.lemmas.List.{append-nil, append_assoc}
+use Rattle.std.proofs.lemmas.List.{append-nil}
 use Rattle.std.proofs.lemmas.List.Elements.{filter_map-append}
-use Rattle.mp_model.specs.declared.ids.TrxName.{TrxName}
-use Rattle.mp_model.specs.declared.key_value.KeyValue.{KeyValue}
-use Rattle.mp_model.specs.declared.key_value.KeyWrite.{KeyWrite}
 use Rattle.mp_model.specs.declared.replies.Answer.{Answer}
 use Rattle.mp_model.specs.declared.replies.Reply.{Reply}
 use Rattle.mp_model.specs.declared.replies.Reply.TheVariants.{Began, Got, Scanned, Wrote, Committed, CommittedNone, Unknown, RolledBack, Conflict, Held, Full, Skipped, Stopped}
 use Rattle.mp_model.specs.declared.transcripts.Mode.TheVariants.{Step as StepMode}
-use Rattle.mp_model.specs.Folded.{over, before, value_at}
-use Rattle.mp_script.specs.declared.statements.Line.{Line}
 use Rattle.mp_script.specs.declared.statements.Stmt.{Stmt}
 use Rattle.mp_script.specs.declared.statements.Stmt.TheVariants.{Begin, Get, Put, Del, Copy, Scan, Commit, Rollback}
-use Rattle.mp_script.specs.Told.{Told, line_at, stmt_at, reply_at}
-use Rattle.mp_script.specs.Transactions.{begins, begin_of, trx_at, trx_of, same_trx, view_in, view_of, number_of, acknowledged_number, is_number, is_wrote, is_refusal, target_of, wrote_at, wrote_before, refused_before}
-use Rattle.mp_script.specs.Seen.{write_by, writes_among, own_writes, acknowledgement, history}
+use Rattle.mp_script.specs.Told.{Told, stmt_at}
+use Rattle.mp_script.specs.Transactions.{begins, begin_of, trx_of, same_trx, view_of, number_of, acknowledged_number, is_number}
 use Rattle.mp_script.specs.Right.{IsRight}
-use Rattle.mp_script.specs.Below.{numbers, greatest, from_first}
+use Rattle.mp_script.specs.Below.{numbers}
 use Rattle.mp_script.specs.Legal.{IsAboveItsView, IsInRange, SeesAbove, SeesEarlierCommits, HoldsItsKeys, shows_down}
-use Rattle.mp_script.specs.Spelling.{MayStand, open_after}
-use Rattle.mp_script.specs.Plain.{Plain, shown, after, number_after, commit_reply, IsReplyTo}
-use Rattle.mp_script.proofs.Lists.{all_append, all_map, all_always, all_from_first, from_first_append, greatest_more, find_behind}
-use Rattle.mp_script.proofs.Histories.{history_later, history_next}
-use Rattle.mp_script.proofs.PlainCase.{Opened, WhileOpen, Agrees, Step, follows_by, no_waits}
-use Rattle.mp_script.proofs.PlainStep.{begin_begins, inside_trx, inside_own, inside_refused, inside_reply, goes_on}
+use Rattle.mp_script.specs.Plain.{Plain, IsReplyTo}
 
 -- an answer is right, and stands rightly below those above it
 pub record Good (told : Told) (above : List Answer) (answer : Answer) : Type 0 where

@@ -1,5 +1,5 @@
 -- What stands above what in a list of answers.
-use Rattle.std.specs.Prelude.{ℕ, max, Bool, ◌==◌, if◌then◌else◌, List, [], ◌∷◌, ◌++◌, Option, Some, None, map, filter}
+use Rattle.std.specs.Prelude.{ℕ, max, Bool, ◌==◌, if◌then◌else◌, List, [], ◌∷◌, ◌++◌, map, filter}
 use Rattle.std.specs.List.{filter_map}
 use Rattle.mp_model.specs.declared.replies.Answer.{Answer}
 use Rattle.mp_script.specs.declared.statements.Line.{Line}

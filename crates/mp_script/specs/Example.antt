@@ -1,5 +1,5 @@
 -- The definitions of a legal transcript on one small script, checked by computing.
-use Rattle.std.specs.Prelude.{ℕ, List, [], ◌∷◌, Option, Some, None}
+use Rattle.std.specs.Prelude.{ℕ, List, [], ◌∷◌, Option}
 use Rattle.mp_model.specs.declared.histories.Opening.{Opening}
 use Rattle.mp_model.specs.declared.replies.Answer.{Answer}
 use Rattle.mp_model.specs.declared.replies.Reply.{Reply}

@@ -1,11 +1,11 @@
 -- A transcript is legal: every reply is what the commits at or below its view, with its transaction's own writes, give,
 -- or a refusal that its cause allows, and the commits stand in one timestamp order.
-use Rattle.std.specs.Prelude.{◌≡◌, ◌≢◌, ℕ, zero, suc, ◌+◌, ◌<◌, ◌≤◌, nat_lt, nat_le, Bool, true, false, ◌==◌, ◌&&◌, ◌||◌, if◌then◌else◌, List, [], ◌∷◌, ◌++◌, Option, Some, None, map, count_by, IfSome}
+use Rattle.std.specs.Prelude.{◌≡◌, ◌≢◌, ℕ, zero, suc, ◌+◌, ◌<◌, ◌≤◌, nat_lt, nat_le, Bool, true, false, ◌==◌, ◌&&◌, ◌||◌, if◌then◌else◌, List, [], ◌∷◌, Some, map, count_by, IfSome}
 use Rattle.std.specs.List.{flat_map, list_any, AllByRecursion}
 use Rattle.mp_model.specs.declared.histories.Opening.{Opening}
 use Rattle.mp_model.specs.declared.replies.Answer.{Answer}
 use Rattle.mp_model.specs.declared.replies.Reply.{Reply}
-use Rattle.mp_model.specs.declared.replies.Reply.TheVariants.{Began, Committed, Unknown, Stopped}
+use Rattle.mp_model.specs.declared.replies.Reply.TheVariants.{Began, Unknown, Stopped}
 use Rattle.mp_model.specs.declared.transcripts.Down.{Down}
 use Rattle.mp_model.specs.declared.transcripts.Mode.{Mode}
 use Rattle.mp_model.specs.declared.transcripts.Mode.TheVariants.{Step, Run}

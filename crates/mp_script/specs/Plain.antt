@@ -1,5 +1,5 @@
 -- One session on a plain list of rows: what it is answered, statement after statement.
-use Rattle.std.specs.Prelude.{◌≡◌, ℕ, ◌+◌, nat_le, List, [], ◌∷◌, ◌++◌, Option, Some, None, take, filter}
+use Rattle.std.specs.Prelude.{◌≡◌, ℕ, ◌+◌, nat_le, List, [], ◌∷◌, ◌++◌, Some, take, filter}
 use Rattle.mp_model.specs.Folded.{over, value_at}
 use Rattle.mp_model.specs.Listed.{Listed}
 use Rattle.mp_model.specs.declared.key_value.KeyValue.{KeyValue}

@@ -1,5 +1,5 @@
 -- How the session on a plain list keeps its state.
-use Rattle.std.specs.Prelude.{◌≡◌, ℕ, List, [], ◌∷◌, ◌++◌}
+use Rattle.std.specs.Prelude.{◌≡◌, ℕ, [], ◌∷◌, ◌++◌}
 use Rattle.mp_model.specs.Folded.{KeysAscend, over}
 use Rattle.mp_model.specs.Listed.{Listed}
 use Rattle.mp_model.specs.declared.histories.Opening.{Opening}

@@ -1,18 +1,15 @@
 -- Which reply to a statement is right, and which waits.
-use Rattle.std.specs.Prelude.{◌≡◌, ◌≢◌, ℕ, ◌+◌, ◌*◌, ◌<◌, nat_le, Bool, true, false, ◌==◌, ◌&&◌, ◌||◌, if◌then◌else◌, is_some, List, [], ◌∷◌, Option, Some, None, take, filter, count_by, MatchOption}
+use Rattle.std.specs.Prelude.{◌≡◌, ◌≢◌, ℕ, ◌+◌, ◌*◌, ◌<◌, nat_le, Bool, true, false, ◌==◌, ◌&&◌, if◌then◌else◌, is_some, List, [], ◌∷◌, Some, take, filter, count_by, MatchOption}
 use Rattle.std.specs.List.{list_any, AllByRecursion}
 use Rattle.mp_model.specs.Folded.{value_at}
 use Rattle.mp_model.specs.declared.ids.TrxName.{TrxName}
 use Rattle.mp_model.specs.declared.replies.Answer.{Answer}
 use Rattle.mp_model.specs.declared.replies.Reply.{Reply}
 use Rattle.mp_model.specs.declared.replies.Reply.TheVariants.{Began, Got, Scanned, Wrote, Committed, CommittedNone, Unknown, RolledBack, Conflict, Held, Full, Skipped, Stopped}
-use Rattle.mp_model.specs.declared.transcripts.Down.{Down}
 use Rattle.mp_script.specs.declared.statements.Line.{Line}
-use Rattle.mp_script.specs.declared.statements.SessionOn.{SessionOn}
-use Rattle.mp_script.specs.declared.statements.Stmt.{Stmt}
 use Rattle.mp_script.specs.declared.statements.Stmt.TheVariants.{Begin, Get, Scan, Commit, Rollback}
-use Rattle.mp_script.specs.Told.{Told, line_at, stmt_at, reply_at}
-use Rattle.mp_script.specs.Transactions.{Target, target_of, begins, trx_at, view_of, wrote_at, wrote_before, refused_before, trx_of}
+use Rattle.mp_script.specs.Told.{Told, line_at, stmt_at}
+use Rattle.mp_script.specs.Transactions.{target_of, begins, trx_at, view_of, wrote_at, wrote_before, refused_before}
 use Rattle.mp_script.specs.Seen.{acknowledgement, seen}
 
 -- how many lines stand above a statement in the script

@@ -1,5 +1,5 @@
 -- What a transaction sees: the commits at or below its view, and its own writes over them.
-use Rattle.std.specs.Prelude.{ℕ, zero, suc, ◌+◌, ◌-◌, Bool, if◌then◌else◌, List, [], ◌∷◌, ◌++◌, Option, Some, None, find}
+use Rattle.std.specs.Prelude.{ℕ, zero, suc, ◌+◌, ◌-◌, if◌then◌else◌, List, [], ◌∷◌, ◌++◌, Option, Some, None, find}
 use Rattle.mp_model.specs.Folded.{over, before, value_at}
 use Rattle.mp_model.specs.declared.histories.Commit.{Commit}
 use Rattle.mp_model.specs.declared.ids.TrxName.{TrxName}

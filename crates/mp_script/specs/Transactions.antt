@@ -1,13 +1,13 @@
 -- Which transaction a statement is of, and what the answers say of it.
-use Rattle.std.specs.Prelude.{ℕ, zero, suc, ◌+◌, ◌-◌, Bool, true, false, ◌==◌, ◌&&◌, ◌||◌, if◌then◌else◌, List, [], ◌∷◌, Option, Some, None}
+use Rattle.std.specs.Prelude.{ℕ, zero, suc, ◌+◌, ◌-◌, Bool, true, false, ◌==◌, ◌&&◌, ◌||◌, if◌then◌else◌, Option, Some, None}
 use Rattle.mp_model.specs.declared.ids.TrxName.{TrxName}
 use Rattle.mp_model.specs.declared.replies.Answer.{Answer}
 use Rattle.mp_model.specs.declared.replies.Reply.{Reply}
-use Rattle.mp_model.specs.declared.replies.Reply.TheVariants.{Began, Got, Scanned, Wrote, Committed, CommittedNone, Unknown, RolledBack, Conflict, Held, Full, Skipped, Stopped}
+use Rattle.mp_model.specs.declared.replies.Reply.TheVariants.{Began, Wrote, Committed, Unknown, Conflict, Held, Full}
 use Rattle.mp_model.specs.declared.replies.WriteVerb.{WriteVerb}
 use Rattle.mp_model.specs.declared.replies.WriteVerb.TheVariants as verb
 use Rattle.mp_script.specs.declared.statements.Stmt.{Stmt}
-use Rattle.mp_script.specs.declared.statements.Stmt.TheVariants.{Begin, Get, Put, Del, Copy, Scan, Commit, Rollback}
+use Rattle.mp_script.specs.declared.statements.Stmt.TheVariants.{Begin, Put, Del, Copy}
 use Rattle.mp_script.specs.Told.{Told, stmt_at, reply_at}
 
 abbrev pub begins : Option Stmt → Bool

@@ -1,5 +1,5 @@
 -- The answers of one session on a plain list are legal.
-use Rattle.std.proofs.Common.{◌≡◌, ◌-◌, ◌≤◌, Ok, Err, IfOk, Result, ◌∙◌, sym, ap, subst, arith}
+use Rattle.std.proofs.Common.{◌≡◌, ◌-◌, ◌≤◌, Ok, Err, IfOk, Result, arith}
 use Rattle.mp_model.specs.declared.transcripts.Transcript.{Transcript}
 use Rattle.mp_model.specs.declared.errors.Memory.{Memory}
 use Rattle.mp_script.specs.Legal.{Legal}

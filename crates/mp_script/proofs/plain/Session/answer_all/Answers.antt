@@ -1,8 +1,6 @@
 -- At the end no line is left.
-use Rattle.std.proofs.Common.{[], subst, length, drop, arith}
+use Rattle.std.proofs.Common.{[], arith}
 use Rattle.std.proofs.lemmas.List.{append-nil, drop_all}
-use Rattle.mp_script.specs.Plain.{AreAnswersTo}
-use Rattle.mp_script.specs.PlainState.{state_of}
 use Rattle.mp_script.proofs.plain.Session.answer_all.Goals as goal
 
 pub returns-clause-answers : goal.returns-clause-answers

@@ -1,0 +1,25 @@
+#!/bin/sh
+# Times the built program from outside. Build it first: ./mp step < examples/first.mps
+set -eu
+cd "$(dirname "$0")/.."
+folder=$(mktemp -d)
+trap 'rm -rf "$folder"' EXIT
+
+# one transaction that puts 9,998 keys, in an order that isn't ascending
+{
+    printf 'primaries 1\nsession s1 on 1\ns1 begin\n'
+    awk 'BEGIN { for (i = 1; i <= 9998; i++) print "s1 put", (i * 7919) % 1000003, "value" i }'
+    printf 's1 commit\n'
+} > "$folder/puts.mps"
+
+time_of() {
+    start=$(date +%s%N)
+    "$@" > "$folder/out"
+    end=$(date +%s%N)
+    echo "$(( (end - start) / 1000000 )) ms"
+}
+
+step_from() { ./mp step < "$1"; }
+
+echo "step, 10,000 statements, 9,998 puts of distinct keys: $(time_of step_from "$folder/puts.mps")"
+tail -n 1 "$folder/out"

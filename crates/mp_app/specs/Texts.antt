@@ -1,0 +1,14 @@
+-- The texts of the program that are no transcript, each ended by the byte 10.
+use Rattle.std.specs.Prelude.{ℕ, List, codes}
+
+abbrev pub usage_text : List ℕ
+usage_text = codes "usage: mp init, step, run, recover, dump, logs or gen N\n"
+
+abbrev pub not_built_text : List ℕ
+not_built_text = codes "refused script not built\n"
+
+abbrev pub source_fault_text : List ℕ
+source_fault_text = codes "fault source\n"
+
+abbrev pub no_memory_text : List ℕ
+no_memory_text = codes "no memory\n"

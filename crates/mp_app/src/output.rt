@@ -1,0 +1,79 @@
+//! What is to be printed, and the status that goes with it.
+
+ghost use Rattle.std.specs.Prelude.{◌≡◌};
+ghost use Rattle.mp_app.specs.Printed.{text_of};
+ghost use Rattle.mp_app.specs.Texts.{usage_text, not_built_text, source_fault_text, no_memory_text};
+
+use crate::status::Status;
+use mp_model::Text;
+
+/// A text: one of the program's own, or one that was made.
+#[derive(Debug, Drop)]
+pub enum Printed {
+    Fixed(&'static [u8]),
+    Made(Text),
+}
+
+impl Printed {
+    pub fn as_slice(&self) -> &[u8]
+        ensures { result.now ≡ text_of self.now }
+    {
+        match self {
+            Printed::Fixed(text) => text,
+            Printed::Made(text) => text.as_slice(),
+        }
+    }
+}
+
+/// A status with its text.
+#[derive(Debug, Drop)]
+pub struct Output {
+    pub status: Status,
+    pub printed: Printed,
+}
+
+impl Output {
+    /// The words are no command.
+    pub fn usage() -> Output
+        ensures status { result.status ≡ Status.Usage }
+        ensures text { text_of result.printed ≡ usage_text }
+    {
+        Output {
+            status: Status::Usage,
+            printed: Printed::Fixed(b"usage: mp init, step, run, recover, dump, logs or gen N\n"),
+        }
+    }
+
+    /// The script isn't of the form that is built.
+    pub fn not_built() -> Output
+        ensures status { result.status ≡ Status.Script }
+        ensures text { text_of result.printed ≡ not_built_text }
+    {
+        Output {
+            status: Status::Script,
+            printed: Printed::Fixed(b"refused script not built\n"),
+        }
+    }
+
+    /// The source failed.
+    pub fn source_fault() -> Output
+        ensures status { result.status ≡ Status.Source }
+        ensures text { text_of result.printed ≡ source_fault_text }
+    {
+        Output {
+            status: Status::Source,
+            printed: Printed::Fixed(b"fault source\n"),
+        }
+    }
+
+    /// There was no memory.
+    pub fn no_memory() -> Output
+        ensures status { result.status ≡ Status.Memory }
+        ensures text { text_of result.printed ≡ no_memory_text }
+    {
+        Output {
+            status: Status::Memory,
+            printed: Printed::Fixed(b"no memory\n"),
+        }
+    }
+}
