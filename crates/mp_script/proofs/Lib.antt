@@ -2,5 +2,7 @@ pub mod Numbers
 pub mod Splitting
 pub mod PlainWords
 pub mod StmtWords
-pub mod FirstFormLaws
-pub mod FirstScripts
+pub mod Tallies
+pub mod EntryLaws
+pub mod Below
+pub mod ScriptLaws

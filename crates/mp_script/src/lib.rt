@@ -2,10 +2,10 @@
 //! scripts are read.
 #![tactic(auto)]
 
+mod drafts;
+mod entries;
 mod reading;
 mod statements;
-#[cfg(test)]
-mod tests;
 mod words;
 
 pub use reading::{ScriptRefusal, parse};
