@@ -2,12 +2,10 @@
 use Rattle.std.proofs.Common.{ℕ, ◌≤◌, List, length, Option, Some, None, sym, ap, subst, ◌∙◌, length-take, arith}
 use Rattle.std.proofs.lemmas.List.{take_all, drop_all}
 use Rattle.mp_outside.specs.Sources.{Reads}
-use Rattle.mp_script.specs.declared.statements.Script.{Script}
-use Rattle.mp_script.specs.Spelling.{Spells}
 use Rattle.mp_app.specs.declared.status.Status.{Status}
 use Rattle.mp_app.specs.declared.status.Status.TheVariants.{Done, Usage, Script as BadScript, Store, Stopped, Source, Sink, Disk, Memory}
-use Rattle.mp_app.specs.Calls.{Call, IsStep, ReadToItsEnd}
-use Rattle.mp_app.specs.Outcomes.{SpellsNone, Says, BytesSay}
+use Rattle.mp_app.specs.Calls.{Call, IsStep, ReadToItsEnd, ReadUpToTheBound}
+use Rattle.mp_app.specs.Outcomes.{Says, BytesSay}
 
 -- fewer bytes than were asked for are all
 pub all_read : (left still_left : Option (List ℕ)) (bytes : List ℕ) → Reads 1048577 left still_left bytes → length bytes ≤ 1048576 → ReadToItsEnd left still_left bytes
@@ -17,19 +15,17 @@ all_read (Some input) (Some rest) bytes reads few =
     let size : length input ≤ 1048577 = omega (arith, ap length reads.0, length-take 1048577 input) in
     (reads.0 ∙ take_all 1048577 input size, ap Some (reads.1 ∙ drop_all 1048577 input size))
 
--- what the bytes don't spell, the input doesn't
-pub none_read : (left still_left : Option (List ℕ)) (bytes : List ℕ) → Reads 1048577 left still_left bytes → ((script : Script) → Spells bytes script → ⊥) → SpellsNone left
-none_read None still_left bytes reads none = tt
-none_read (Some input) None bytes reads none = absurd reads
-none_read (Some input) (Some rest) bytes reads none = λ script spelled.
-    let size : length input ≤ 1048577 = omega (arith, spelled.size) in
-    none script (subst (λ b. Spells b script) (sym (reads.0 ∙ take_all 1048577 input size)) spelled)
+-- what was read is what was left, up to the bound
+pub bound_read : (left still_left : Option (List ℕ)) (bytes : List ℕ) → Reads 1048577 left still_left bytes → ReadUpToTheBound left bytes
+bound_read None still_left bytes reads = tt
+bound_read (Some input) None bytes reads = absurd reads
+bound_read (Some input) (Some rest) bytes reads = reads.0
 
 -- the status and the text go with the call
 pub says_from_bytes : (call : Call) (bytes : List ℕ) (status : Status) (text : List ℕ) → IsStep call.words → Reads 1048577 call.left call.still_left bytes → BytesSay bytes status text → Says call status text
-says_from_bytes call bytes Done text step reads says = (step, record { bytes = bytes; script = says.0; read = all_read call.left call.still_left bytes reads says.1.size; spelled = says.1; answered = says.2 })
+says_from_bytes call bytes Done text step reads says = (step, record { bytes = bytes; script = says.0; read = all_read call.left call.still_left bytes reads says.1.size; spelled = says.1; plain = says.2; answered = says.3 })
 says_from_bytes call bytes Usage text step reads says = absurd says
-says_from_bytes call bytes BadScript text step reads says = (step, none_read call.left call.still_left bytes reads says.0, says.1)
+says_from_bytes call bytes BadScript text step reads says = (step, record { bytes = bytes; read = bound_read call.left call.still_left bytes reads; refused = says })
 says_from_bytes call bytes Store text step reads says = absurd says
 says_from_bytes call bytes Stopped text step reads says = absurd says
 says_from_bytes call bytes Source text step reads says = absurd says

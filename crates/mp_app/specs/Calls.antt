@@ -1,5 +1,5 @@
 -- One call of the program, as its contracts see it.
-use Rattle.std.specs.Prelude.{◌≡◌, ℕ, List, [], ◌∷◌, Option, Some, None, codes}
+use Rattle.std.specs.Prelude.{◌≡◌, ℕ, List, [], ◌∷◌, take, Option, Some, None, codes}
 use Rattle.mp_model.specs.declared.histories.Opening.{Opening}
 
 -- the words after the program's name, and what the source had left before and after, where it tells
@@ -21,6 +21,11 @@ IsStep words = words ≡ codes "step" ∷ []
 abbrev pub ReadToItsEnd : Option (List ℕ) → Option (List ℕ) → List ℕ → Type 0
 ReadToItsEnd None still_left bytes = Unit {0}
 ReadToItsEnd (Some input) still_left bytes = (bytes ≡ input) × (still_left ≡ Some [])
+
+-- these bytes are all that was left, or its first 1,048,577, where it told
+abbrev pub ReadUpToTheBound : Option (List ℕ) → List ℕ → Type 0
+ReadUpToTheBound None bytes = Unit {0}
+ReadUpToTheBound (Some input) bytes = bytes ≡ take 1048577 input
 
 -- a store without rows, of which the meta page and the root are taken
 pub record IsFresh (opening : Opening) : Type 0 where

@@ -1,11 +1,15 @@
 -- The texts of the program that are no transcript, each ended by the byte 10.
-use Rattle.std.specs.Prelude.{ℕ, List, codes}
+use Rattle.std.specs.Prelude.{ℕ, List, [], ◌∷◌, ◌++◌, codes, decimal}
+use Rattle.mp_script.specs.Faults.{FaultAt}
 
 abbrev pub usage_text : List ℕ
 usage_text = codes "usage: mp init, step, run, recover, dump, logs or gen N\n"
 
 abbrev pub not_built_text : List ℕ
 not_built_text = codes "refused script not built\n"
+
+abbrev pub script_fault_text : FaultAt → List ℕ
+script_fault_text found = codes "refused script fault " ++ decimal found.fault ++ codes " line " ++ decimal found.line ++ 10 ∷ []
 
 abbrev pub source_fault_text : List ℕ
 source_fault_text = codes "fault source\n"

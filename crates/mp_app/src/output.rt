@@ -1,11 +1,12 @@
 //! What is to be printed, and the status that goes with it.
 
-ghost use Rattle.std.specs.Prelude.{◌≡◌};
-ghost use Rattle.mp_app.specs.Printed.{text_of};
-ghost use Rattle.mp_app.specs.Texts.{usage_text, not_built_text, source_fault_text, no_memory_text};
+ghost use Rattle.std.specs.Prelude.{◌≡◌, IfOk};
+ghost use Rattle.mp_app.specs.Printed.{text_of, SaysFault};
+ghost use Rattle.mp_app.specs.Texts.{usage_text, not_built_text, script_fault_text, source_fault_text, no_memory_text};
 
 use crate::status::Status;
 use mp_model::Text;
+use std::alloc::{AllocError, Global};
 
 /// A text: one of the program's own, or one that was made.
 #[derive(Debug, Drop)]
@@ -44,7 +45,20 @@ impl Output {
         }
     }
 
-    /// The script isn't of the form that is built.
+    /// The script's first fault, with its line. Where there is no memory for the text, that is what is said.
+    pub fn script_fault(alloc: Global, fault: u8, line: u32) -> Output
+        ensures { SaysFault (record { fault = fault; line = line }) result }
+    {
+        match fault_text(alloc, fault, line) {
+            Ok(text) => Output {
+                status: Status::Script,
+                printed: Printed::Made(text),
+            },
+            Err(_) => Output::no_memory(),
+        }
+    }
+
+    /// The script is of several primaries or sessions, which isn't built.
     pub fn not_built() -> Output
         ensures status { result.status ≡ Status.Script }
         ensures text { text_of result.printed ≡ not_built_text }
@@ -76,4 +90,11 @@ impl Output {
             printed: Printed::Fixed(b"no memory\n"),
         }
     }
+}
+
+fn fault_text(alloc: Global, fault: u8, line: u32) -> Result<Text, AllocError>
+    ensures { IfOk result (λ text. text.items ≡ script_fault_text (record { fault = fault; line = line })) }
+{
+    let text = format!(in alloc; "refused script fault {fault} line {line}\n")?;
+    Ok(Text::from_vec(text.into_bytes()))
 }

@@ -9,6 +9,13 @@ use std::test::Fail;
 
 const HEAD: &str = "primaries 1\nsession s1 on 1\n";
 
+// Puts, a delete and scans of one transaction.
+const SCANS: &str =
+    "s1 begin\ns1 put 3 c\ns1 put 1 a\ns1 put 2 b\ns1 del 2\ns1 scan 0 10\ns1 scan 2 1\ns1 scan 9 5\ns1 commit\n";
+
+const SCANNED: &str =
+    "transcript step base 0\ns1.1 begin 0\ns1.2 put ok\ns1.3 put ok\ns1.4 put ok\ns1.5 del ok\ns1.6 scan 2 1=a 3=c\ns1.7 scan 1 3=c\ns1.8 scan 0\ns1.9 commit 1\nend commits 1\n";
+
 // What one call came to: its status and what it printed.
 #[derive(Drop)]
 struct Ran {
@@ -51,6 +58,15 @@ fn scripts_print_their_transcripts(rt: HostRuntime) -> Result<(), Fail> {
             longest,
             "transcript step base 0\ns1.1 begin 0\ns1.2 put ok\ns1.3 commit 1\nend commits 1\n",
         ),
+        (
+            "s1 begin\ns1 put 2 b\ns1 copy 1 2\ns1 get 2\ns1 commit\n",
+            "transcript step base 0\ns1.1 begin 0\ns1.2 put ok\ns1.3 copy ok\ns1.4 get no row\ns1.5 commit 1\nend commits 1\n",
+        ),
+        (SCANS, SCANNED),
+        (
+            "# rolled back\n\ns1 begin\ns1 put 1 a\ns1 rollback\ns1 begin\ns1 get 1\ns1 put 1 b",
+            "transcript step base 0\ns1.1 begin 0\ns1.2 put ok\ns1.3 rollback ok\ns1.4 begin 0\ns1.5 get no row\ns1.6 put ok\nend commits 0\n",
+        ),
     ];
     for (script, printed) in rows {
         let text = format!(in rt.alloc(); "{HEAD}{script}")?;
@@ -69,9 +85,52 @@ fn refusals_print_their_text(rt: HostRuntime) -> Result<(), Fail> {
         assert!(rt; ran.status == Status::Usage);
         assert!(rt; ran.sink.written() == usage.as_bytes());
     }
-    let ran = run(rt.alloc(), &["step"], "primaries 2\n", &[], &[])?;
-    assert!(rt; ran.status == Status::Script);
-    assert!(rt; ran.sink.written() == b"refused script not built\n".as_slice());
+    Ok(())
+}
+
+// Scripts with their first fault, and those that aren't built.
+#[test]
+fn scripts_are_refused_by_their_first_fault(rt: HostRuntime) -> Result<(), Fail> {
+    let rows = [
+        (
+            "primaries 1\nsession s1 on 1\ns1 peek 7\n",
+            "refused script fault 2 line 3\n",
+        ),
+        (
+            "primaries 1\nsession s1 on 1\ns1 get 07\n",
+            "refused script fault 3 line 3\n",
+        ),
+        (
+            "primaries 1\nsession s1 on 1\ns2 begin\n",
+            "refused script fault 5 line 3\n",
+        ),
+        (
+            "primaries 1\nsession s1 on 1\ns1 get 7\n",
+            "refused script fault 6 line 3\n",
+        ),
+        (
+            "primaries 1\nsession s1 on 1\ns1 begin\ns1 begin\n",
+            "refused script fault 7 line 4\n",
+        ),
+        (
+            "primaries 1\nsession s1 on 1\ns1 scan 0 101\n",
+            "refused script fault 8 line 3\n",
+        ),
+        ("primary 1\n", "refused script fault 1 line 1\n"),
+        ("primaries 0\n", "refused script fault 3 line 1\n"),
+        ("primaries 9\n", "refused script fault 8 line 1\n"),
+        ("", "refused script fault 1 line 1\n"),
+        ("primaries 2\n", "refused script not built\n"),
+        (
+            "primaries 1\nsession s1 on 1\nsession s2 on 1\n",
+            "refused script not built\n",
+        ),
+    ];
+    for (script, printed) in rows {
+        let ran = run(rt.alloc(), &["step"], script, &[], &[])?;
+        assert!(rt; ran.status == Status::Script);
+        assert!(rt; ran.sink.written() == printed.as_bytes());
+    }
     Ok(())
 }
 

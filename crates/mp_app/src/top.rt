@@ -1,7 +1,7 @@
 //! The call that the program makes.
 
-ghost use Rattle.std.specs.Prelude.{◌≡◌, ◌≢◌, ◌↔◌, ℕ, List, IsTrue, IfOk, map, string_bytes};
-ghost use Rattle.mp_script.specs.Spelling.{IsFirstForm};
+ghost use Rattle.std.specs.Prelude.{◌≡◌, ◌≢◌, ◌↔◌, ℕ, List, IsTrue, false, IfOk, map, string_bytes};
+ghost use Rattle.mp_script.specs.OneSession.{AreAlone, IsPlain};
 ghost use Rattle.mp_outside.specs.Faults.{Rose};
 ghost use Rattle.std.specs.Io.KnownBytes.{Appends};
 ghost use Rattle.mp_outside.specs.Sinks.{AppendsFront};
@@ -101,14 +101,23 @@ fn answer_bytes(alloc: Global, bytes: &[u8]) -> Output
     ensures { BytesSay bytes.now result.status (text_of result.printed) }
 {
     match parse(alloc, bytes) {
-        Ok(script) => answer_script(alloc, &script),
-        Err(ScriptRefusal::NotBuilt) => Output::not_built(),
+        Ok(script) if is_plain(&script) => answer_script(alloc, &script),
+        Ok(_) => Output::not_built(),
+        Err(ScriptRefusal::Fault { fault, line }) => Output::script_fault(alloc, fault, line),
         Err(ScriptRefusal::Memory) => Output::no_memory(),
     }
 }
 
+// Whether a script has one primary and one session at most.
+fn is_plain(script: &Script) -> bool
+    ensures yes { IsTrue result → IsPlain script.now }
+    ensures no { result ≡ false → IsPlain script.now → ⊥ }
+{
+    script.primaries == 1 && script.sessions.len() <= 1
+}
+
 fn answer_script(alloc: Global, script: &Script) -> Output
-    requires { IsFirstForm script.now }
+    requires { AreAlone script.now.lines.items }
     ensures { ScriptSays script.now result.status (text_of result.printed) }
 {
     match transcript_text(alloc, script) {
@@ -122,7 +131,7 @@ fn answer_script(alloc: Global, script: &Script) -> Output
 
 // The text of a legal transcript of the script over a fresh store.
 fn transcript_text(alloc: Global, script: &Script) -> Result<Text, Memory>
-    requires { IsFirstForm script.now }
+    requires { AreAlone script.now.lines.items }
     ensures { IfOk result (λ text. PrintsLegal script.now text.items) }
 {
     let opening = Opening {

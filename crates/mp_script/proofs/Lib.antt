@@ -2,8 +2,6 @@ pub mod Numbers
 pub mod Splitting
 pub mod PlainWords
 pub mod StmtWords
-pub mod FirstFormLaws
-pub mod FirstScripts
 pub mod Histories
 pub mod Lists
 pub mod Lookups
@@ -17,3 +15,8 @@ pub mod PlainNext
 pub mod PlainNumbers
 pub mod PlainStep
 pub mod PlainRuns
+pub mod Tallies
+pub mod EntryLaws
+pub mod Below
+pub mod ScriptLaws
+pub mod Alone

@@ -8,13 +8,14 @@ use Rattle.mp_script.specs.declared.statements.Line.{Line}
 use Rattle.mp_script.specs.declared.statements.Stmt.{Stmt}
 use Rattle.mp_script.specs.declared.statements.Stmt.TheVariants.{Begin, Get, Put, Del, Copy, Scan, Commit, Rollback}
 use Rattle.mp_script.specs.Told.{Told, line_at, answer_at}
-use Rattle.mp_script.specs.Spelling.{MayStand, open_after}
+use Rattle.mp_script.specs.Spelling.{MayStand}
+use Rattle.mp_script.specs.Entries.{open_after}
 use Rattle.mp_script.specs.Plain.{Plain, shown, after, IsReplyTo}
 use Rattle.mp_script.proofs.Lists.{all_append, all_map}
 use Rattle.mp_script.proofs.PlainCase.{Agrees, Step}
 use Rattle.mp_script.specs.Below.{EachBelow}
-use Rattle.mp_script.specs.Spelling.{Runs}
-use Rattle.mp_script.specs.Plain.{NumberedIn, AreAnswersTo, number_at_end}
+use Rattle.mp_script.specs.OneSession.{NumberedIn, Runs}
+use Rattle.mp_script.specs.Plain.{AreAnswersTo, number_at_end}
 use Rattle.mp_script.proofs.Lookups.{line_found, answer_found}
 use Rattle.mp_script.proofs.PlainGood.{Good}
 use Rattle.mp_script.proofs.PlainBegin.{begin_good, begin_kept}

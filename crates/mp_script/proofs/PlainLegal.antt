@@ -17,8 +17,8 @@ use Rattle.mp_model.specs.Listed.{Listed}
 use Rattle.mp_script.specs.declared.statements.Script.{Script}
 use Rattle.mp_script.specs.Below.{EachBelow}
 use Rattle.mp_script.specs.Legal.{Legal, told_by, all_answers, StaysDown, FirstCommitterWins, IsNamedDown, same_primary}
-use Rattle.mp_script.specs.Spelling.{Runs}
-use Rattle.mp_script.specs.Plain.{NumberedIn, AreAnswersTo, number_at_end}
+use Rattle.mp_script.specs.OneSession.{NumberedIn, Runs}
+use Rattle.mp_script.specs.Plain.{AreAnswersTo, number_at_end}
 use Rattle.mp_script.proofs.Lists.{below_map, all_from_below}
 use Rattle.mp_script.proofs.PlainGood.{Good}
 use Rattle.mp_script.proofs.PlainNumbers.{numbered_once, answered_once}

@@ -6,8 +6,7 @@ use Rattle.mp_model.specs.declared.replies.Answer.{Answer}
 use Rattle.mp_script.specs.declared.statements.Line.{Line}
 use Rattle.mp_script.specs.declared.statements.Stmt.{Stmt}
 use Rattle.mp_script.specs.declared.statements.Stmt.TheVariants.{Begin, Get, Put, Del, Copy, Scan, Commit, Rollback}
-use Rattle.mp_script.specs.Plain.{Plain, NumberedIn, after, number_after, IsAnswerTo, AreAnswersTo, number_at_end}
-use Rattle.mp_script.specs.Spelling.{AreOfSessionOne, Numbered}
+use Rattle.mp_script.specs.Plain.{Plain, after, number_after, IsAnswerTo, AreAnswersTo, number_at_end}
 
 -- a statement takes one number at most
 pub number_next : (plain : Plain) (stmt : Stmt) → (after plain stmt).number ≤ plain.number + 1
@@ -31,8 +30,3 @@ answered_more first plain next lines todo later line answers answer is is_next i
 
 pub numbers_more : (plain next : Plain) (todo later : List Line) (line : Line) → todo ≡ line ∷ later → next ≡ after plain line.stmt → number_at_end next later ≡ number_at_end plain todo
 numbers_more plain next todo later line is is_next = rw (is, is_next) refl
-
--- the statements of the first form are of session 1 and numbered from 1
-pub numbered_in : (first : ℕ) (lines : List Line) → AreOfSessionOne lines → Numbered first lines → NumberedIn 1 first lines
-numbered_in first [] of numbered = tt
-numbered_in first (line ∷ lines) of numbered = (of.0, numbered.0, numbered_in (first + 1) lines of.3 numbered.1)

@@ -1,7 +1,8 @@
 pub mod Text
 pub mod Words
+pub mod Entries
+pub mod Faults
 pub mod Spelling
-pub mod FirstForm
 pub mod Told
 pub mod Transactions
 pub mod Seen
@@ -11,3 +12,6 @@ pub mod Legal
 pub mod Example
 pub mod Plain
 pub mod PlainState
+pub mod OneSession
+pub mod Drafts
+pub mod Readings

@@ -67,8 +67,3 @@ AreAnswersTo plain (line ∷ lines) (answer ∷ answers) = IsAnswerTo plain line
 abbrev pub number_at_end : Plain → List Line → ℕ
 number_at_end plain [] = plain.number
 number_at_end plain (line ∷ lines) = number_at_end (after plain line.stmt) lines
-
--- all statements are of one session, and numbered one after another from a first number on
-abbrev pub NumberedIn : ℕ → ℕ → List Line → Type 0
-NumberedIn session first [] = Unit {0}
-NumberedIn session first (line ∷ lines) = (line.session ≡ session) × (line.index ≡ first) × NumberedIn session (first + 1) lines

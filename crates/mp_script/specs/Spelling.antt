@@ -1,34 +1,18 @@
--- Which bytes are a script: so far one primary, one session, and the statements begin, get, put and commit.
-use Rattle.std.specs.Prelude.{◌≡◌, ℕ, ◌+◌, ◌≤◌, List, [], ◌∷◌, length, Bool, true, false, Result, Ok, Err}
+-- Which bytes are which script.
+use Rattle.std.specs.Prelude.{◌≡◌, ℕ, ◌+◌, ◌<◌, ◌≤◌, List, [], ◌∷◌, map, length, Bool, true, false, Option, Some, Result, Ok, Err}
 use Rattle.mp_script.specs.declared.statements.Stmt.{Stmt}
 use Rattle.mp_script.specs.declared.statements.Stmt.TheVariants.{Begin, Get, Put, Del, Copy, Scan, Commit, Rollback}
 use Rattle.mp_script.specs.declared.statements.Line.{Line}
+use Rattle.mp_script.specs.declared.statements.SessionOn.{SessionOn}
 use Rattle.mp_script.specs.declared.statements.Script.{Script}
+use Rattle.mp_script.specs.declared.entries.Entry.{Entry}
+use Rattle.mp_script.specs.declared.entries.Entry.TheVariants.{Session, Statement}
 use Rattle.mp_script.specs.declared.reading.ScriptRefusal.{ScriptRefusal}
-use Rattle.mp_script.specs.declared.reading.ScriptRefusal.TheVariants.{NotBuilt, Memory}
-use Rattle.mp_script.specs.Text.{script_text}
-use Rattle.mp_script.specs.Words.{IsStmt}
-
--- the statements that are built
-abbrev pub IsBuilt : Stmt → Type 0
-IsBuilt Begin = Unit {0}
-IsBuilt (Get key) = Unit {0}
-IsBuilt (Put key value) = Unit {0}
-IsBuilt (Del key) = ⊥
-IsBuilt (Copy from to) = ⊥
-IsBuilt (Scan low most) = ⊥
-IsBuilt Commit = Unit {0}
-IsBuilt Rollback = ⊥
-
--- each statement is one of session 1, is built, and has keys and values within their limits
-abbrev pub AreOfSessionOne : List Line → Type 0
-AreOfSessionOne [] = Unit {0}
-AreOfSessionOne (line ∷ lines) = (line.session ≡ 1) × IsBuilt line.stmt × IsStmt line.stmt × AreOfSessionOne lines
-
--- the statements are numbered one after another, from a first number on
-abbrev pub Numbered : ℕ → List Line → Type 0
-Numbered first [] = Unit {0}
-Numbered first (line ∷ lines) = (line.index ≡ first) × Numbered (first + 1) lines
+use Rattle.mp_script.specs.declared.reading.ScriptRefusal.TheVariants.{Fault, Memory}
+use Rattle.mp_script.specs.Text.{header_words}
+use Rattle.mp_script.specs.Words.{IsStmt, Kept, kept_lines}
+use Rattle.mp_script.specs.Entries.{Said, start, with_entry, said_after, entry_words, is_declared, statements, is_open}
+use Rattle.mp_script.specs.Faults.{FaultAt, first_fault}
 
 -- a statement may stand where a transaction is open, or where none is
 abbrev pub MayStand : Bool → Stmt → Type 0
@@ -49,36 +33,54 @@ MayStand true (Scan low most) = Unit {0}
 MayStand true Commit = Unit {0}
 MayStand true Rollback = Unit {0}
 
--- behind a statement a transaction is open, unless it ends one
-abbrev pub open_after : Stmt → Bool
-open_after Begin = true
-open_after (Get key) = true
-open_after (Put key value) = true
-open_after (Del key) = true
-open_after (Copy from to) = true
-open_after (Scan low most) = true
-open_after Commit = false
-open_after Rollback = false
+-- a session may be declared below those above
+pub record MayDeclare (said : Said) (s : SessionOn) : Type 0 where
+  pub session_low : 1 ≤ s.session
+  pub session_high : s.session ≤ 64
+  pub primary_low : 1 ≤ s.primary
+  pub primary_high : s.primary ≤ said.primaries
+  pub new : is_declared said.sessions s.session ≡ false
 
--- transactions open and close in turn; at first one is open, or none
-abbrev pub Runs : Bool → List Line → Type 0
-Runs open_now [] = Unit {0}
-Runs open_now (line ∷ lines) = MayStand open_now line.stmt × Runs (open_after line.stmt) lines
+-- a statement may be said below those above: its session is declared, it has the session's next number, keys and
+-- values are within their limits, its transaction is open or is to be, and fewer than 10,000 stand above
+pub record MaySay (said : Said) (line : Line) : Type 0 where
+  pub declared : is_declared said.sessions line.session ≡ true
+  pub number : line.index ≡ statements said.lines line.session + 1
+  pub within : IsStmt line.stmt
+  pub stands : MayStand (is_open said.lines line.session) line.stmt
+  pub room : length said.lines < 10000
 
--- a script of the form that is built
-pub record IsFirstForm (script : Script) : Type 0 where
-  pub primaries : script.primaries ≡ 1
-  pub sessions : script.sessions.items ≡ record { session = 1; primary = 1 } ∷ []
-  pub lines : AreOfSessionOne script.lines.items
-  pub numbered : Numbered 1 script.lines.items
-  pub runs : Runs false script.lines.items
-  pub count : length script.lines.items ≤ 10000
+-- a line may say this below those above
+abbrev pub Fits : Said → Entry → Type 0
+Fits said (Session s) = MayDeclare said s
+Fits said (Statement line) = MaySay said line
 
--- the bytes are the text of that script, and not too long
+-- each fits what stands above it
+abbrev pub AllFit : Said → List Entry → Type 0
+AllFit said [] = Unit {0}
+AllFit said (entry ∷ entries) = Fits said entry × AllFit (with_entry said entry) entries
+
+-- what a script says
+abbrev pub said_of : Script → Said
+said_of script = record { primaries = script.primaries; sessions = script.sessions.items; lines = script.lines.items }
+
+-- the kept lines are these: a header, and entries that fit and add up to the script
+pub record SpellsBy (kept : List Kept) (script : Script) (entries : List Entry) : Type 0 where
+  pub primaries_low : 1 ≤ script.primaries
+  pub primaries_high : script.primaries ≤ 8
+  pub words : map (λ k. k.words) kept ≡ header_words script.primaries ∷ map entry_words entries
+  pub fit : AllFit (start script.primaries) entries
+  pub whole : said_after (start script.primaries) entries ≡ said_of script
+
+-- the bytes spell the script: they aren't too many, and their kept lines are its header and entries
 pub record Spells (bytes : List ℕ) (script : Script) : Type 0 where
-  pub form : IsFirstForm script
-  pub text : bytes ≡ script_text script
   pub size : length bytes ≤ 1048576
+  pub entries : List Entry
+  pub spelled : SpellsBy (kept_lines bytes) script entries
+
+-- some bytes spell the script
+abbrev pub IsSpelled : Script → Type 0
+IsSpelled script = (bytes : List ℕ) × Spells bytes script
 
 -- the same script, whatever room its lists have
 pub record IsSameScript (wanted read : Script) : Type 0 where
@@ -89,5 +91,16 @@ pub record IsSameScript (wanted read : Script) : Type 0 where
 -- the answer is that script, or there was no memory
 abbrev pub IsRead : Script → Result Script ScriptRefusal → Type 0
 IsRead wanted (Ok read) = IsSameScript wanted read
-IsRead wanted (Err NotBuilt) = ⊥
+IsRead wanted (Err (Fault fault line)) = ⊥
 IsRead wanted (Err Memory) = Unit {0}
+
+-- the answer is that fault, or there was no memory
+abbrev pub IsRefused : FaultAt → Result Script ScriptRefusal → Type 0
+IsRefused found (Ok read) = ⊥
+IsRefused found (Err (Fault fault line)) = (found.fault ≡ fault) × (found.line ≡ line)
+IsRefused found (Err Memory) = Unit {0}
+
+-- a refusal names the first fault of the bytes, or the want of memory
+abbrev pub Explains : List ℕ → ScriptRefusal → Type 0
+Explains bytes (Fault fault line) = first_fault bytes ≡ Some (record { fault = fault; line = line })
+Explains bytes Memory = Unit {0}

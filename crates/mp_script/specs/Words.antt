@@ -1,12 +1,42 @@
--- What words mean: numbers, and statements behind their session's name.
-use Rattle.std.specs.Prelude.{◌==◌, ◌<◌, ◌≤◌, ◌^◌, ◌&&◌, ◌||◌, not, nat_lt, nat_le, ℕ, length, List, [], ◌∷◌, Bool, false, Option, Some, None, Result, Ok, Err, codes, if◌then◌else◌, IsTrue}
+-- How lines and words are told apart, and what words mean: names, numbers, and statements behind their session's name.
+use Rattle.std.specs.Prelude.{◌+◌, ◌==◌, ◌<◌, ◌≤◌, ◌^◌, ◌&&◌, ◌||◌, not, nat_lt, nat_le, ℕ, length, List, [], ◌∷◌, Bool, false, Option, Some, None, Result, Ok, Err, codes, if◌then◌else◌, IsTrue, true}
 use Rattle.std.specs.Str.{bytes_eq}
-use Rattle.std.specs.List.{list_all}
+use Rattle.std.specs.List.{list_all, slice_split}
 use Rattle.std.specs.Char.{is_ascii_digit}
 use Rattle.std.specs.Str.Parse.{digits_value}
 use Rattle.mp_model.specs.Values.{is_value}
 use Rattle.mp_script.specs.declared.statements.Stmt.{Stmt}
 use Rattle.mp_script.specs.declared.statements.Stmt.TheVariants.{Begin, Get, Put, Del, Copy, Scan, Commit, Rollback}
+
+-- the words of a line, which each single space parts
+abbrev pub words_of : List ℕ → List (List ℕ)
+words_of line = slice_split (λ b. b == 32) line
+
+-- a line is skipped where it is empty or begins with `#`
+abbrev pub is_skipped : List ℕ → Bool
+is_skipped [] = true
+is_skipped (first ∷ rest) = first == 35
+
+-- a kept line: its number, from 1, and its words
+pub record Kept : Type 0 where
+  pub number : ℕ
+  pub words : List (List ℕ)
+
+-- the kept ones of these lines, of which the first has that number
+abbrev pub kept_from : ℕ → List (List ℕ) → List Kept
+kept_from number [] = []
+kept_from number (line ∷ lines) =
+    if is_skipped line then kept_from (number + 1) lines
+    else record { number = number; words = words_of line } ∷ kept_from (number + 1) lines
+
+-- the kept lines of a script: the byte 10 parts its lines
+abbrev pub kept_lines : List ℕ → List Kept
+kept_lines bytes = kept_from 1 (slice_split (λ b. b == 10) bytes)
+
+-- what stands behind the letter s in a session's name: one or more digits. Other words are no names
+abbrev pub name_digits : List ℕ → Option (List ℕ)
+name_digits [] = None
+name_digits (letter ∷ digits) = if letter == 115 && (nat_lt 0 (length digits) && list_all is_ascii_digit digits) then Some digits else None
 
 -- digits that don't begin with a 0 that another follows
 abbrev pub is_numeral : List ℕ → Bool
@@ -17,7 +47,10 @@ is_numeral (first ∷ rest) = (not (first == 48) || length rest == 0) && list_al
 abbrev pub number_of : List ℕ → Option ℕ
 number_of word = if is_numeral word && nat_lt (digits_value 10 word) (2 ^ 32) then Some (digits_value 10 word) else None
 
--- the faults that a statement's own words may have
+-- the faults, by their numbers
+abbrev pub bad_header : ℕ
+bad_header = 1
+
 abbrev pub unknown_word : ℕ
 unknown_word = 2
 
@@ -27,8 +60,20 @@ bad_number = 3
 abbrev pub bad_value : ℕ
 bad_value = 4
 
+abbrev pub unknown_session : ℕ
+unknown_session = 5
+
+abbrev pub no_transaction : ℕ
+no_transaction = 6
+
+abbrev pub open_twice : ℕ
+open_twice = 7
+
 abbrev pub too_many : ℕ
 too_many = 8
+
+abbrev pub too_long : ℕ
+too_long = 9
 
 -- a statement of a verb alone
 abbrev pub bare_stmt : List ℕ → Result Stmt ℕ

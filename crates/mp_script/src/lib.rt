@@ -4,10 +4,10 @@
 
 mod examples;
 mod plain;
+mod drafts;
+mod entries;
 mod reading;
 mod statements;
-#[cfg(test)]
-mod tests;
 mod words;
 
 pub use examples::law_examples;

@@ -3,10 +3,10 @@
 ghost use Rattle.std.specs.Prelude.{◌≡◌, ℕ, ◌+◌, ◌*◌, ◌^◌, ◌<◌, ◌≤◌, nat_le, List, [], ◌∷◌, ◌++◌, length, take, drop, filter, Some, None, false, IfOk, OnOk};
 ghost use Rattle.mp_model.specs.Folded.{KeysAscend, over, value_at};
 ghost use Rattle.mp_script.specs.Legal.{Legal};
-ghost use Rattle.mp_script.specs.Spelling.{Runs};
+ghost use Rattle.mp_script.specs.OneSession.{AreAlone};
 ghost use Rattle.mp_script.specs.Seen.{write_by};
 ghost use Rattle.mp_script.specs.PlainState.{start, state_of, with_write, IsSound, IsPlainTranscript};
-ghost use Rattle.mp_script.specs.Plain.{NumberedIn, Plain, shown, after, IsReplyTo, IsAnswerTo, AreAnswersTo, number_at_end, commit_reply};
+ghost use Rattle.mp_script.specs.Plain.{Plain, shown, after, IsReplyTo, IsAnswerTo, AreAnswersTo, number_at_end, commit_reply};
 
 use crate::statements::{Line, Script, Stmt};
 use mp_model::{
@@ -22,9 +22,8 @@ pub fn answer_plainly(
     opening: &Opening,
 ) -> Result<Transcript, Memory>
     requires keys { KeysAscend opening.now.rows.items }
-    requires numbered { NumberedIn 1 1 script.now.lines.items }
-    requires runs { Runs false script.now.lines.items }
-    requires room { opening.now.base + length script.now.lines.items < 2 ^ 64 }
+    requires alone { AreAlone script.now.lines.items }
+    requires room { opening.now.base + 10000 < 2 ^ 64 }
     ensures { IfOk result (Legal script.now opening.now) }
 {
     let mut session = Session::open(alloc, opening)?;

@@ -2,23 +2,34 @@
 
 ghost use Rattle.std.specs.Prelude.{◌≡◌, ◌==◌, IfOk, map};
 ghost use Rattle.std.specs.List.{list_all};
+ghost use Rattle.std.specs.Option.{option_map};
 ghost use Rattle.std.specs.Char.{is_ascii_digit};
 ghost use Rattle.mp_script.specs.Words.{is_numeral, number_of, bare_stmt, key_stmt, put_stmt, copy_stmt, scan_stmt, pair_stmt, stmt_of};
-ghost use Rattle.mp_script.specs.FirstForm.{words_of};
+ghost use Rattle.mp_script.specs.Words.{words_of, is_skipped, name_digits};
 
 use crate::statements::Stmt;
 use mp_model::{Memory, Value};
 use std::alloc::Global;
 use std::str;
 
-/// The fault of a first word that is none, of an unknown verb, or of a count of words that isn't the verb's.
-const UNKNOWN_WORD: u8 = 2;
-/// The fault of a number that isn't one of the language.
-const BAD_NUMBER: u8 = 3;
-/// The fault of a value that isn't 1 to 32 bytes of 33 to 126.
-const BAD_VALUE: u8 = 4;
-/// The fault of a `scan` that asks for more rows than it may.
-const TOO_MANY: u8 = 8;
+/// The first kept line isn't two words of which the first is `primaries`.
+pub const BAD_HEADER: u8 = 1;
+/// A first word that is none, an unknown verb, or a count of words that isn't the verb's.
+pub const UNKNOWN_WORD: u8 = 2;
+/// A number that isn't one of the language, or is 0 or too high where it may not be.
+pub const BAD_NUMBER: u8 = 3;
+/// A value that isn't 1 to 32 bytes of 33 to 126.
+pub const BAD_VALUE: u8 = 4;
+/// A session that isn't declared above, or is declared twice.
+pub const UNKNOWN_SESSION: u8 = 5;
+/// A statement outside a transaction.
+pub const NO_TRANSACTION: u8 = 6;
+/// A `begin` inside a transaction.
+pub const OPEN_TWICE: u8 = 7;
+/// More primaries, sessions, rows or statements than there may be.
+pub const TOO_MANY: u8 = 8;
+/// More bytes than there may be.
+pub const TOO_LONG: u8 = 9;
 
 /// The most rows that a `scan` may ask for.
 const MOST_ROWS: u32 = 100;
@@ -28,6 +39,28 @@ pub fn words_of<'a>(alloc: Global, line: &'a [u8]) -> Result<Vec<&'a [u8]>, Memo
     ensures { IfOk result (λ words. map (λ w. w.now) words.items ≡ words_of line.now) }
 {
     Ok(line.split(|byte| *byte == b' ').collect(alloc)?)
+}
+
+/// Whether a line is skipped: it is empty, or begins with `#`.
+pub fn is_skipped(line: &[u8]) -> bool
+    ensures { result ≡ is_skipped line.now }
+{
+    match line.first() {
+        Some(first) => *first == b'#',
+        None => true,
+    }
+}
+
+/// What stands behind the letter s in a session's name: one or more digits. None where the word is no name.
+pub fn name_digits(word: &[u8]) -> Option<&[u8]>
+    ensures { option_map (λ d. d.now) result ≡ name_digits word.now }
+{
+    let (letter, digits) = word.split_first()?;
+    if *letter == b's' && !digits.is_empty() && are_digits(digits) {
+        Some(digits)
+    } else {
+        None
+    }
 }
 
 /// The number that a word is: `0`, or digits that begin with 1 to 9, of at most 4294967295.

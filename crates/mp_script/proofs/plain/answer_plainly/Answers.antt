@@ -25,5 +25,5 @@ returns c = go c.transcript_of.result c.transcript_of.ensures
     number_is = rw (← c.in_ok-session.ensures.state, ← c.as_slice.ensures) c.in_ok-answers.ensures.number
 
     go : (r : Result Transcript Memory) → IfOk r (IsPlainTranscript c.args.opening.now.base c.in_ok-answers.answers (c.answer_all.new.self.number - c.args.opening.now.base)) → IfOk r (Legal c.args.script.now c.args.opening.now)
-    go (Ok transcript) is = plain_legal c.args.script.now c.args.opening.now transcript c.in_ok-answers.answers 1 is.mode is.from is.part is.downs (omega (arith, is.count, number_is, rises)) c.requires.numbered c.requires.runs answers_are
+    go (Ok transcript) is = plain_legal c.args.script.now c.args.opening.now transcript c.in_ok-answers.answers c.requires.alone.session is.mode is.from is.part is.downs (omega (arith, is.count, number_is, rises)) c.requires.alone.numbered c.requires.alone.runs answers_are
     go (Err e) is = tt
