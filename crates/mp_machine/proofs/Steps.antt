@@ -1,0 +1,126 @@
+-- An event that is allowed keeps the rule: what each step call on the table owes.
+use Rattle.std.proofs.Common.{◌≡◌, ℕ, ◌⊎◌, List, [], ◌∷◌, Option, None, Some, get_or, set, length, refl, sym, ap, ◌∙◌, subst, inl, inr, ⊎_elim, zero, suc, arith}
+use mathlib.Core.Logic.{dite}
+use mathlib.Core.Option.{some, some-injective, some-ne-none}
+use native.Mathlib.Decide.{ℕ_discrete}
+use lib.ListN.{get_elem?}
+use Rattle.atomic_table.specs.Table.{State, Me, Allows, Act, Valid, stepped, homes_after, carried_after}
+use Rattle.atomic_table.proofs.Lists.{at_set, set_else}
+use Rattle.mp_machine.specs.Machine.{Machine, run, MayCome, AllAllowed}
+use Rattle.mp_machine.specs.View.{View, part_in, with_part, Agrees}
+use Rattle.mp_machine.specs.Rule.{Laws, Stands, Rule, Permits, Word, Came, Made, Stored}
+use Rattle.mp_machine.proofs.Views.{part_in-with_here, part_in-with_else}
+
+module _ {A : Type 0} where
+  pub index_at : (l : List A) (i : ℕ) (a d : A) → get_elem? l i ≡ some a → get_or l i d ≡ a
+  index_at [] i a d e = absurd (some-ne-none a (sym e))
+  index_at (x ∷ xs) zero a d e = some-injective x a e
+  index_at (x ∷ xs) (suc i) a d e = index_at xs i a d e
+
+  pub set_there : (l : List A) (i : ℕ) (a b : A) → get_elem? l i ≡ some a → get_elem? (set l i b) i ≡ some b
+  set_there [] i a b e = absurd (some-ne-none a (sym e))
+  set_there (x ∷ xs) zero a b e = refl
+  set_there (x ∷ xs) (suc i) a b e = set_there xs i a b e
+
+module _ {Slot Part Event Place Note World : Type 0} (m : Machine Slot Part Event Place Note World) (l : Laws m) where
+  -- the words after an event
+  words_after : (es : List Event) (e : Event) → AllAllowed m (e ∷ es) → (f : ℕ → ℕ) → Word m e f → (t : State Slot (View Part)) → Stands m (run m es) t
+      → (a : Place) → m.IsPlace a → get_elem? (set t.words (m.index (m.place_of e)) (f (get_or t.words (m.index (m.place_of e)) 0))) (m.index a) ≡ some (m.content (run m (e ∷ es)) a)
+  words_after es e all f word t s a is =
+      let i = m.index (m.place_of e) in
+      let was = s.words (m.place_of e) (l.placed es e all) in
+      let new = f (get_or t.words i 0) in
+      dite (ℕ_discrete (m.index a) i)
+          (λ here.
+              let same : a ≡ m.place_of e = l.apart a (m.place_of e) is (l.placed es e all) here in
+              let value : new ≡ m.content (run m (e ∷ es)) (m.place_of e) = ap f (index_at t.words i (m.content (run m es) (m.place_of e)) 0 was) ∙ word es all ∙ sym (l.content_here es e all) in
+              subst (λ b. get_elem? (set t.words i new) (m.index b) ≡ some (m.content (run m (e ∷ es)) b)) (sym same)
+                  (set_there t.words i (m.content (run m es) (m.place_of e)) new was ∙ ap (λ (n : ℕ). some n) value))
+          (λ there.
+              set_else t.words i (m.index a) new there ∙ s.words a is ∙ ap (λ (n : ℕ). some n) (sym (l.content_else es e all a (λ same. there (ap m.index same)))))
+
+  -- the parts that seats hold after an event
+  held_after : (es : List Event) (e : Event) → AllAllowed m (e ∷ es) → (t : State Slot (View Part)) (s : Stands m (run m es) t) (id : ℕ) (v : View Part) (p : Part)
+      → get_elem? t.views id ≡ some v → part_in v (m.node_of e) ≡ Some p → (q : Part) → q ≡ m.part (run m (e ∷ es)) (m.node_of e)
+      → (seat : ℕ) (u : View Part) (n : ℕ) (r : Part) → get_elem? (set t.views id (with_part v (m.node_of e) q)) seat ≡ some u → part_in u n ≡ Some r → (seat ≡ s.seat_of n) × (m.part (run m (e ∷ es)) n ≡ r)
+  held_after es e all t s id v p at has q is seat u n r there holds =
+      let c = m.node_of e in
+      let w = with_part v c q in
+      let mine = s.held id v c p at has in
+      ⊎_elim
+          (λ (x : (seat ≡ id) × (w ≡ u)).
+              let held : part_in w n ≡ Some r = subst (λ y. part_in y n ≡ Some r) (sym x.1) holds in
+              dite (ℕ_discrete n c)
+                  (λ same.
+                      let new : part_in w n ≡ Some q = subst (λ k. part_in w k ≡ Some q) (sym same) (part_in-with_here v c q p has) in
+                      let value : q ≡ r = cc in
+                      (x.0 ∙ mine.0 ∙ ap s.seat_of (sym same), ap (m.part (run m (e ∷ es))) same ∙ sym is ∙ value))
+                  (λ other.
+                      let old = s.held id v n r at (sym (part_in-with_else v c n q other) ∙ held) in
+                      (x.0 ∙ old.0, l.part_else es e all n other ∙ old.1)))
+          (λ (x : (¬ (seat ≡ id)) × (get_elem? t.views seat ≡ some u)).
+              let old = s.held seat u n r x.1 holds in
+              (old.0, l.part_else es e all n (λ same. x.0 (old.0 ∙ ap s.seat_of same ∙ sym mine.0)) ∙ old.1))
+          (at_set t.views id seat w u there)
+
+  -- the world after an allowed event stands behind the table after the step
+  stands_after : (es : List Event) (e : Event) (carried : List (ℕ × Slot)) (may : MayCome m es carried e) (before : AllAllowed m es) (f : ℕ → ℕ) → Word m e f
+      → (t : State Slot (View Part)) (s : Stands m (run m es) t) (id : ℕ) (v : View Part) (p : Part) → get_elem? t.views id ≡ some v → part_in v (m.node_of e) ≡ Some p
+      → (q : Part) → q ≡ m.part (run m (e ∷ es)) (m.node_of e)
+      → Stands m (run m (e ∷ es)) (stepped t (m.index (m.place_of e)) (f (get_or t.words (m.index (m.place_of e)) 0)) id carried (with_part v (m.node_of e) q) (m.act (run m es) e))
+  stands_after es e carried may before f word t s id v p at has q is =
+      let all : AllAllowed m (e ∷ es) = ((carried, may), before) in
+      record {
+        words = words_after es e all f word t s;
+        homes = ap (λ hs. homes_after hs carried (m.act (run m es) e)) s.homes ∙ sym (l.homes_here es e carried may before);
+        seat_of = s.seat_of;
+        held = held_after es e all t s id v p at has q is;
+      }
+
+  -- THE ADAPTER: an event that the seat may make is what a step owes, if the step changes the word as the event does
+  pub steps : (e : Event) (f : ℕ → ℕ) → Word m e f → (slots id : ℕ) (me : Me Slot (View Part)) → Permits m e me
+      → Allows (Rule m) slots id me (m.index (m.place_of e)) f (Made m e me)
+  steps e f word slots id me permits t rule long at small =
+      let p = permits.0 in
+      let has = permits.1 in
+      let may = permits.2 in
+      let es = rule.0 in
+      let before = rule.1 in
+      let s = rule.2 in
+      let mine = s.held id me.0 (m.node_of e) p at has in
+      let may' : MayCome m es me.1 e = subst (λ q. m.Allowed q me.1 e) (sym mine.1) may in
+      let all : AllAllowed m (e ∷ es) = ((me.1, may'), before) in
+      let i = m.index (m.place_of e) in
+      let found : get_or t.words i 0 ≡ m.content (run m es) (m.place_of e) = index_at t.words i (m.content (run m es) (m.place_of e)) 0 (s.words (m.place_of e) (l.placed es e all)) in
+      let x = m.note (run m es) e in
+      let q = m.made e (get_or t.words i 0) x p in
+      let is : q ≡ m.part (run m (e ∷ es)) (m.node_of e) = (λ k. m.made e (found k) x (sym mine.1 k)) ∙ sym (l.part_here es e all) in
+      let now = stands_after es e me.1 may' before f word t s id me.0 p at has q is in
+      let act = m.act (run m es) e in (
+        with_part me.0 (m.node_of e) q,
+        act,
+        subst (λ hs. Valid hs me.1 act) (sym s.homes) (l.acts es e me.1 may' before),
+        (e ∷ es, all, now),
+        (
+          x,
+          p,
+          has,
+          refl,
+          record {
+            events = es;
+            allowed = all;
+            found_is = sym found;
+            noted = refl;
+            agreed = λ n r held. (s.held id me.0 n r at held).1;
+            agrees = λ n r held. (now.held id (with_part me.0 (m.node_of e) q) n r (set_there t.views id me.0 (with_part me.0 (m.node_of e) q) at) held).1;
+            carries = refl;
+          },
+        ),
+      )
+
+  -- the same for a store, which tells nothing of the word found
+  pub stores : (e : Event) (new : ℕ) → Word m e (λ _. new) → (slots id : ℕ) (me : Me Slot (View Part)) → Permits m e me
+      → Allows (Rule m) slots id me (m.index (m.place_of e)) (λ _. new) (λ _. Stored m e me)
+  stores e new word slots id me permits t rule long at small =
+      let done = steps e (λ _. new) word slots id me permits t rule long at small in
+      (done.0, done.1, done.2, done.3, (get_or t.words (m.index (m.place_of e)) 0, done.4))
