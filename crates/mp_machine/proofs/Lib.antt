@@ -1,4 +1,4 @@
 pub mod Views
 pub mod Time
-pub mod Steps
+pub mod Adapter
 pub mod Seats

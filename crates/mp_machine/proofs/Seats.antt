@@ -153,3 +153,8 @@ module _ {Slot Part Event Place Note World : Type 0} (m : Machine Slot Part Even
         words_are = λ a is. subst (λ ws. get_elem? ws (m.index a) ≡ some (m.content (run m rule.0) a)) f.2 (s.words a is);
         slots_are = λ k y home. f.4 k y (ap (λ hs. get_elem? hs k) s.homes ∙ home);
       }
+
+-- the look for a family of machines, at the opening that a turn names
+module _ {Slot Part Event Place Note World Opening : Type 0} (machine : Opening → Machine Slot Part Event Place Note World) where
+  pub looks_at : (o key : Opening) → o ≡ key → (slots id i : ℕ) (me : Me Slot (View Part)) → Allows (Rule (machine key)) slots id me i (λ n. n) (λ _. Looked (machine o) me)
+  looks_at o key same slots id i me = subst (λ k. Allows (Rule (machine k)) slots id me i (λ n. n) (λ _. Looked (machine o) me)) same (looks (machine o) slots id i me)

@@ -1,5 +1,5 @@
 -- An abstract machine: words that change in single steps, slots that nodes take and give back, a part for each node, and events.
-use Rattle.std.specs.Prelude.{◌≡◌, ℕ, List, [], ◌∷◌}
+use Rattle.std.specs.Prelude.{ℕ, List, [], ◌∷◌}
 use mathlib.Core.Option.{Option}
 use Rattle.atomic_table.specs.Table.{Act}
 

@@ -10,8 +10,6 @@ use Rattle.mp_machine.specs.View.{View, part_in, with_part, whole, Agrees}
 pub record Laws {Slot Part Event Place Note World : Type 0} (m : Machine Slot Part Event Place Note World) : Type 0 where
   -- two places do not lie in one word
   pub apart : (a b : Place) → m.IsPlace a → m.IsPlace b → m.index a ≡ m.index b → a ≡ b
-  -- an event is on a word that there is
-  pub placed : (es : List Event) (e : Event) → AllAllowed m (e ∷ es) → m.IsPlace (m.place_of e)
   -- its node's part becomes what the event makes of it, and no other part changes
   pub part_here : (es : List Event) (e : Event) → AllAllowed m (e ∷ es) → m.part (run m (e ∷ es)) (m.node_of e) ≡ m.made e (m.content (run m es) (m.place_of e)) (m.note (run m es) e) (m.part (run m es) (m.node_of e))
   pub part_else : (es : List Event) (e : Event) → AllAllowed m (e ∷ es) → (n : ℕ) → ¬ (n ≡ m.node_of e) → m.part (run m (e ∷ es)) n ≡ m.part (run m es) n
@@ -47,13 +45,19 @@ module _ {Slot Part Event Place Note World : Type 0} (m : Machine Slot Part Even
   abbrev pub Backed : View Part → Type 0
   Backed v = (es : List Event) × AllAllowed m es × Agrees (m.part (run m es)) v
 
-  -- the seat holds the part of the event's node, and with it and the slots that the seat carries the event is allowed
-  abbrev pub Permits : Event → Me Slot (View Part) → Type 0
-  Permits e me = (p : Part) × (part_in me.0 (m.node_of e) ≡ Some p) × m.Allowed p me.1 e
-
   -- where the event may come, this function of its word is what the event makes of it
   abbrev pub Word : Event → (ℕ → ℕ) → Type 0
   Word e f = (es : List Event) → AllAllowed m (e ∷ es) → f (m.content (run m es) (m.place_of e)) ≡ m.word_after e (m.content (run m es) (m.place_of e))
+
+  -- A seat can make the event by a step that changes this word by this function: it holds the part of the event's node,
+  -- and with that part and the slots that the seat carries the event is allowed
+  pub record CanMake (e : Event) (me : Me Slot (View Part)) (word : ℕ) (f : ℕ → ℕ) : Type 0 where
+    pub place : m.IsPlace (m.place_of e)
+    pub word_is : word ≡ m.index (m.place_of e)
+    pub mine : Part
+    pub holds : part_in me.0 (m.node_of e) ≡ Some mine
+    pub allowed : m.Allowed mine me.1 e
+    pub changes : Word e f
 
   -- the event came after some events that were allowed: what it found and noted there, and the seat before and after
   pub record Came (e : Event) (before : Me Slot (View Part)) (found : ℕ) (x : Note) (after : Me Slot (View Part)) : Type 0 where

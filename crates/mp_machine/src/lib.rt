@@ -1,19 +1,11 @@
-//! An abstract machine below everything concurrent.
+//! A table that threads share, under the rule of an abstract machine: what stands in it was reached by events, each
+//! allowed when it came. A step is one event, and adding a kind of event touches no step that stands.
 #![tactic(auto)]
 
-ghost use Rattle.std.specs.Prelude.{◌≡◌, ℕ, List};
-ghost use Rattle.mp_machine.specs.Machine.{Machine};
-ghost use Rattle.mp_machine.specs.Rule.{Laws};
+mod plays;
+mod ruled_table;
+mod steps;
+mod system;
 
-/// T
-pub trait System<S, P, E, K> {
-    ghost Place: { Type 0 };
-
-    ghost Note: { Type 0 };
-
-    ghost World: { Type 0 };
-
-    ghost machine: { K → Machine S P E Place Note World };
-
-    ghost laws: { (k : K) → Laws (machine k) };
-}
+pub use ruled_table::{RuledTable, Seat, View};
+pub use system::{Cut, System, Turn};

@@ -8,7 +8,7 @@ use Rattle.atomic_table.specs.Table.{State, Me, Allows, Act, Valid, stepped, hom
 use Rattle.atomic_table.proofs.Lists.{at_set, set_else}
 use Rattle.mp_machine.specs.Machine.{Machine, run, MayCome, AllAllowed}
 use Rattle.mp_machine.specs.View.{View, part_in, with_part, Agrees}
-use Rattle.mp_machine.specs.Rule.{Laws, Stands, Rule, Permits, Word, Came, Made, Stored}
+use Rattle.mp_machine.specs.Rule.{Laws, Stands, Rule, CanMake, Word, Came, Made, Stored}
 use Rattle.mp_machine.proofs.Views.{part_in-with_here, part_in-with_else}
 
 module _ {A : Type 0} where
@@ -24,15 +24,15 @@ module _ {A : Type 0} where
 
 module _ {Slot Part Event Place Note World : Type 0} (m : Machine Slot Part Event Place Note World) (l : Laws m) where
   -- the words after an event
-  words_after : (es : List Event) (e : Event) → AllAllowed m (e ∷ es) → (f : ℕ → ℕ) → Word m e f → (t : State Slot (View Part)) → Stands m (run m es) t
+  words_after : (es : List Event) (e : Event) → AllAllowed m (e ∷ es) → m.IsPlace (m.place_of e) → (f : ℕ → ℕ) → Word m e f → (t : State Slot (View Part)) → Stands m (run m es) t
       → (a : Place) → m.IsPlace a → get_elem? (set t.words (m.index (m.place_of e)) (f (get_or t.words (m.index (m.place_of e)) 0))) (m.index a) ≡ some (m.content (run m (e ∷ es)) a)
-  words_after es e all f word t s a is =
+  words_after es e all placed f word t s a is =
       let i = m.index (m.place_of e) in
-      let was = s.words (m.place_of e) (l.placed es e all) in
+      let was = s.words (m.place_of e) placed in
       let new = f (get_or t.words i 0) in
       dite (ℕ_discrete (m.index a) i)
           (λ here.
-              let same : a ≡ m.place_of e = l.apart a (m.place_of e) is (l.placed es e all) here in
+              let same : a ≡ m.place_of e = l.apart a (m.place_of e) is placed here in
               let value : new ≡ m.content (run m (e ∷ es)) (m.place_of e) = ap f (index_at t.words i (m.content (run m es) (m.place_of e)) 0 was) ∙ word es all ∙ sym (l.content_here es e all) in
               subst (λ b. get_elem? (set t.words i new) (m.index b) ≡ some (m.content (run m (e ∷ es)) b)) (sym same)
                   (set_there t.words i (m.content (run m es) (m.place_of e)) new was ∙ ap (λ (n : ℕ). some n) value))
@@ -64,26 +64,22 @@ module _ {Slot Part Event Place Note World : Type 0} (m : Machine Slot Part Even
           (at_set t.views id seat w u there)
 
   -- the world after an allowed event stands behind the table after the step
-  stands_after : (es : List Event) (e : Event) (carried : List (ℕ × Slot)) (may : MayCome m es carried e) (before : AllAllowed m es) (f : ℕ → ℕ) → Word m e f
+  stands_after : (es : List Event) (e : Event) (carried : List (ℕ × Slot)) (may : MayCome m es carried e) (before : AllAllowed m es) → m.IsPlace (m.place_of e) → (f : ℕ → ℕ) → Word m e f
       → (t : State Slot (View Part)) (s : Stands m (run m es) t) (id : ℕ) (v : View Part) (p : Part) → get_elem? t.views id ≡ some v → part_in v (m.node_of e) ≡ Some p
       → (q : Part) → q ≡ m.part (run m (e ∷ es)) (m.node_of e)
       → Stands m (run m (e ∷ es)) (stepped t (m.index (m.place_of e)) (f (get_or t.words (m.index (m.place_of e)) 0)) id carried (with_part v (m.node_of e) q) (m.act (run m es) e))
-  stands_after es e carried may before f word t s id v p at has q is =
+  stands_after es e carried may before placed f word t s id v p at has q is =
       let all : AllAllowed m (e ∷ es) = ((carried, may), before) in
       record {
-        words = words_after es e all f word t s;
+        words = words_after es e all placed f word t s;
         homes = ap (λ hs. homes_after hs carried (m.act (run m es) e)) s.homes ∙ sym (l.homes_here es e carried may before);
         seat_of = s.seat_of;
         held = held_after es e all t s id v p at has q is;
       }
 
-  -- THE ADAPTER: an event that the seat may make is what a step owes, if the step changes the word as the event does
-  pub steps : (e : Event) (f : ℕ → ℕ) → Word m e f → (slots id : ℕ) (me : Me Slot (View Part)) → Permits m e me
-      → Allows (Rule m) slots id me (m.index (m.place_of e)) f (Made m e me)
-  steps e f word slots id me permits t rule long at small =
-      let p = permits.0 in
-      let has = permits.1 in
-      let may = permits.2 in
+  steps_at : (e : Event) (me : Me Slot (View Part)) (f : ℕ → ℕ) → m.IsPlace (m.place_of e) → (p : Part) → part_in me.0 (m.node_of e) ≡ Some p → m.Allowed p me.1 e → Word m e f
+      → (slots id : ℕ) → Allows (Rule m) slots id me (m.index (m.place_of e)) f (Made m e me)
+  steps_at e me f placed p has may word slots id t rule long at small =
       let es = rule.0 in
       let before = rule.1 in
       let s = rule.2 in
@@ -91,11 +87,11 @@ module _ {Slot Part Event Place Note World : Type 0} (m : Machine Slot Part Even
       let may' : MayCome m es me.1 e = subst (λ q. m.Allowed q me.1 e) (sym mine.1) may in
       let all : AllAllowed m (e ∷ es) = ((me.1, may'), before) in
       let i = m.index (m.place_of e) in
-      let found : get_or t.words i 0 ≡ m.content (run m es) (m.place_of e) = index_at t.words i (m.content (run m es) (m.place_of e)) 0 (s.words (m.place_of e) (l.placed es e all)) in
+      let found : get_or t.words i 0 ≡ m.content (run m es) (m.place_of e) = index_at t.words i (m.content (run m es) (m.place_of e)) 0 (s.words (m.place_of e) placed) in
       let x = m.note (run m es) e in
       let q = m.made e (get_or t.words i 0) x p in
       let is : q ≡ m.part (run m (e ∷ es)) (m.node_of e) = (λ k. m.made e (found k) x (sym mine.1 k)) ∙ sym (l.part_here es e all) in
-      let now = stands_after es e me.1 may' before f word t s id me.0 p at has q is in
+      let now = stands_after es e me.1 may' before placed f word t s id me.0 p at has q is in
       let act = m.act (run m es) e in (
         with_part me.0 (m.node_of e) q,
         act,
@@ -118,9 +114,22 @@ module _ {Slot Part Event Place Note World : Type 0} (m : Machine Slot Part Even
         ),
       )
 
+  -- the adapter: what a step owes, of an event that the seat can make by it
+  pub steps : (e : Event) (me : Me Slot (View Part)) (word : ℕ) (f : ℕ → ℕ) → CanMake m e me word f → (slots id : ℕ) → Allows (Rule m) slots id me word f (Made m e me)
+  steps e me word f can slots id = subst (λ i. Allows (Rule m) slots id me i f (Made m e me)) (sym can.word_is) (steps_at e me f can.place can.mine can.holds can.allowed can.changes slots id)
+
   -- the same for a store, which tells nothing of the word found
-  pub stores : (e : Event) (new : ℕ) → Word m e (λ _. new) → (slots id : ℕ) (me : Me Slot (View Part)) → Permits m e me
-      → Allows (Rule m) slots id me (m.index (m.place_of e)) (λ _. new) (λ _. Stored m e me)
-  stores e new word slots id me permits t rule long at small =
-      let done = steps e (λ _. new) word slots id me permits t rule long at small in
-      (done.0, done.1, done.2, done.3, (get_or t.words (m.index (m.place_of e)) 0, done.4))
+  pub stores : (e : Event) (me : Me Slot (View Part)) (word new : ℕ) → CanMake m e me word (λ _. new) → (slots id : ℕ) → Allows (Rule m) slots id me word (λ _. new) (λ _. Stored m e me)
+  stores e me word new can slots id t rule long at small =
+      let done = steps e me word (λ _. new) can slots id t rule long at small in
+      (done.0, done.1, done.2, done.3, (get_or t.words word 0, done.4))
+
+-- the same for a family of machines, at the opening that a turn names
+module _ {Slot Part Event Place Note World Opening : Type 0} (machine : Opening → Machine Slot Part Event Place Note World) (laws : (o : Opening) → Laws (machine o)) where
+  pub turns : (o key : Opening) → o ≡ key → (e : Event) (me : Me Slot (View Part)) (word : ℕ) (f : ℕ → ℕ) → CanMake (machine o) e me word f
+      → (slots id : ℕ) → Allows (Rule (machine key)) slots id me word f (Made (machine o) e me)
+  turns o key same e me word f can slots id = subst (λ k. Allows (Rule (machine k)) slots id me word f (Made (machine o) e me)) same (steps (machine o) (laws o) e me word f can slots id)
+
+  pub turns_by_store : (o key : Opening) → o ≡ key → (e : Event) (me : Me Slot (View Part)) (word new : ℕ) → CanMake (machine o) e me word (λ _. new)
+      → (slots id : ℕ) → Allows (Rule (machine key)) slots id me word (λ _. new) (λ _. Stored (machine o) e me)
+  turns_by_store o key same e me word new can slots id = subst (λ k. Allows (Rule (machine k)) slots id me word (λ _. new) (λ _. Stored (machine o) e me)) same (stores (machine o) (laws o) e me word new can slots id)
