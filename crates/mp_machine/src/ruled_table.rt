@@ -2,14 +2,13 @@
 ghost use Rattle.std.specs.Prelude.{◌≡◌, ◌<◌, [], length, IfOk, IfErr};
 ghost use Rattle.std.specs.Mem.Slots.{slots_items, slots_len, IsFull};
 ghost use Rattle.mp_machine.specs.View.{only, without, joined};
-ghost use Rattle.mp_machine.specs.Rule.{Opens, all_parts, Backed, Looked, Ends};
+ghost use Rattle.mp_machine.specs.Rule.{Opens, all_parts, Backed, Ends};
 
 use crate::plays::{Looks, Parted, Ruled, Together};
 use crate::system::{Cut, System, Turn};
 use atomic_table::{Closed, Refused, Table};
 use std::alloc::Global;
 use std::collections::LinkedList;
-use std::marker::Brand;
 
 /// What a seat knows: by node, the part that it holds. No value of it is made.
 pub type View<P> = LinkedList<Option<P>>;
@@ -50,29 +49,21 @@ impl<M: System> RuledTable<M> {
     }
 
     /// Takes in the parts of a seat that carries no slot. It looks at the table once more, so the parts together are backed.
-    pub fn join(&self, seat: &mut Seat<M>, other: Seat<M>)
-        requires table { (seat.old.table_id ≡ self.now.table.shared.table_id) × (other.table_id ≡ self.now.table.shared.table_id) × (0 < self.now.table.shared.table_id.words) }
+    pub fn join<T: Turn<M>>(&self, seat: &mut Seat<M>, other: Seat<M>)
+        requires table { (seat.old.table_id ≡ self.now.table.shared.table_id) × (other.table_id ≡ self.now.table.shared.table_id) × (T.opening ≡ self.now.table.shared.key) × (0 < self.now.table.shared.table_id.words) }
         requires empty { other.me.1 ≡ [] }
         ensures seat { (seat.new.table_id ≡ seat.old.table_id) × (seat.new.id ≡ seat.old.id) × (seat.new.me ≡ (joined seat.old.me.0 other.me.0, seat.old.me.1)) }
-        ensures backed { Backed (M.machine self.now.table.shared.key) seat.new.me.0 }
+        ensures backed { Backed (M.machine T.opening) seat.new.me.0 }
     {
         self.table.shared.join_seat::<Together>(seat, other);
-        self.look(seat);
+        self.look::<T>(seat);
     }
 
     /// Changes nothing: some state of the machine that can be reached agrees with the seat's view.
-    pub fn look(&self, seat: &mut Seat<M>)
-        requires { (seat.old.table_id ≡ self.now.table.shared.table_id) × (0 < self.now.table.shared.table_id.words) }
+    pub fn look<T: Turn<M>>(&self, seat: &mut Seat<M>)
+        requires table { (seat.old.table_id ≡ self.now.table.shared.table_id) × (T.opening ≡ self.now.table.shared.key) × (0 < self.now.table.shared.table_id.words) }
         ensures seat { (seat.new.table_id ≡ seat.old.table_id) × (seat.new.id ≡ seat.old.id) × (seat.new.me ≡ seat.old.me) }
-        ensures backed { Backed (M.machine self.now.table.shared.key) seat.new.me.0 }
-    {
-        self.look_as::<Brand>(seat);
-    }
-
-    fn look_as<T: Turn<M>>(&self, seat: &mut Seat<M>)
-        requires { (seat.old.table_id ≡ self.now.table.shared.table_id) × (0 < self.now.table.shared.table_id.words) × (T.opening ≡ self.now.table.shared.key) }
-        ensures seat { (seat.new.table_id ≡ seat.old.table_id) × (seat.new.id ≡ seat.old.id) }
-        ensures looked { Looked (M.machine T.opening) seat.old.me seat.new.me }
+        ensures backed { Backed (M.machine T.opening) seat.new.me.0 }
     {
         self.table.shared.load::<Looks<M, T>>(seat, 0);
     }

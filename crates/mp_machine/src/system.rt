@@ -27,24 +27,14 @@ pub trait System {
     ghost machine: { Self.Opening → Machine Self.Slot Self.Part Self.Event Place Note World };
 
     ghost laws: { (opening : Self.Opening) → Laws (machine opening) };
-
-    // Any event and any opening: what a turn is before a caller picks it.
-    ghost some_event: { Self.Event };
-
-    ghost some_opening: { Self.Opening };
 }
 
-/// The event that a step is, and the opening of its table. A caller passes `Brand`, and picks both in its proof.
+/// The event that a step is, and the opening of its table. A caller passes `Brand`, and picks both in its proof. Its crate
+/// has the `impl` for `Brand`, at its own system and with any event and opening.
 pub trait Turn<M: System> {
     ghost event: { M.Event };
 
     ghost opening: { M.Opening };
-}
-
-impl<M: System> Turn<M> for Brand {
-    ghost event = { M.some_event };
-
-    ghost opening = { M.some_opening };
 }
 
 /// The nodes whose parts go to a new seat. A caller passes `Brand`, and picks it in its proof.
