@@ -2,6 +2,7 @@
 //! allowed when it came. A step is one event, and adding a kind of event touches no step that stands.
 #![tactic(auto)]
 
+pub mod example;
 mod plays;
 mod ruled_table;
 mod steps;
