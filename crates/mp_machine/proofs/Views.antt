@@ -15,6 +15,11 @@ module _ {Part : Type 0} where
   part_in-with_else (x ∷ v) (suc n) zero p d = refl
   part_in-with_else (x ∷ v) (suc n) (suc k) p d = part_in-with_else v n k p (λ e. d (ap suc e))
 
+  pub with_part-same : (v : View Part) (n : ℕ) (p : Part) → part_in v n ≡ Some p → with_part v n p ≡ v
+  with_part-same [] n p e = refl
+  with_part-same (x ∷ v) zero p e = ap (λ y. y ∷ v) (sym e)
+  with_part-same (x ∷ v) (suc n) p e = ap (λ y. x ∷ y) (with_part-same v n p e)
+
   pub part_in-only : (test : ℕ → Bool) (v : View Part) (n : ℕ) → part_in (only test v) n ≡ (if test n then part_in v n else None)
   part_in-only test [] n = nothing_else (test n)
     where

@@ -1,9 +1,9 @@
 -- The example's machine: two nodes draw numbers from a counter, and a lock guards the one slot.
 use Rattle.std.specs.Prelude.{◌≡◌, ℕ, ◌+◌, ◌^◌, ◌<◌, ◌≤◌, List, [], ◌∷◌, length, Bool, true, false, ◌==◌, if◌then◌else◌, Some}
 use mathlib.Core.Option.{Option, none, some}
-use Rattle.atomic_table.specs.Table.{Act, keeps, takes, gives}
+use Rattle.atomic_table.specs.Table.{Me, Act, keeps, takes, gives}
 use Rattle.mp_machine.specs.Machine.{Machine}
-use Rattle.mp_machine.specs.View.{View, part_in}
+use Rattle.mp_machine.specs.View.{View, part_in, with_part}
 use Rattle.mp_machine.specs.declared.example.Worker.{Worker}
 use Rattle.mp_machine.specs.declared.example.Event.{Event}
 use Rattle.mp_machine.specs.declared.example.Event.TheVariants.{Draw, Total, Lock, Unlock}
@@ -135,6 +135,35 @@ pub record Inv (w : World) : Type 0 where
   pub logged : w.drawn ≤ length w.history
   pub at_home : w.locked ≡ 0 → (y : ℕ) × (w.value ≡ some y)
 
--- the view has a worker of node n with so many draws, and which holds the lock or does not
-abbrev pub HasDrawn : View Worker → ℕ → ℕ → Type 0
-HasDrawn v n draws = (p : Worker) × (part_in v n ≡ Some p) × (p.draws ≡ draws)
+-- the seat holds the node's worker, which has drawn less than 2^32 numbers
+abbrev pub CanDraw : Me ℕ (View Worker) → ℕ → Type 0
+CanDraw me n = (n < 2) × ((p : Worker) × (part_in me.0 n ≡ Some p) × (p.draws < 2 ^ 32))
+
+-- the worker drew one more, and heard of at least as many events as the number that it drew
+abbrev pub Drew : ℕ → Me ℕ (View Worker) → ℕ → Me ℕ (View Worker) → Type 0
+Drew n before found after =
+    (heard : ℕ) × (p : Worker) × (found ≤ heard) × (part_in before.0 n ≡ Some p)
+    × (after ≡ (with_part before.0 n (record { draws = p.draws + 1; heard = heard; holds = p.holds }), before.1))
+
+-- the seat holds both workers, and this is how many numbers they drew together
+abbrev pub HaveDrawn : Me ℕ (View Worker) → ℕ → Type 0
+HaveDrawn me count = (p : Worker) × (q : Worker) × (part_in me.0 0 ≡ Some p) × (part_in me.0 1 ≡ Some q) × (count ≡ p.draws + q.draws)
+
+-- the seat holds the node's worker
+abbrev pub HasWorker : Me ℕ (View Worker) → ℕ → Type 0
+HasWorker me n = (n < 2) × ((p : Worker) × (part_in me.0 n ≡ Some p))
+
+-- the worker has the lock, and the seat the slot with this value; nothing else changed
+abbrev pub Has : ℕ → Me ℕ (View Worker) → ℕ → Me ℕ (View Worker) → Type 0
+Has n before value after =
+    (p : Worker) × (part_in before.0 n ≡ Some p)
+    × (after ≡ (with_part before.0 n (record { draws = p.draws; heard = p.heard; holds = true }), (0, value) ∷ before.1))
+
+-- the seat holds the node's worker, which has the lock, and carries the slot alone
+abbrev pub CanUnlock : Me ℕ (View Worker) → ℕ → Type 0
+CanUnlock me n = (n < 2) × ((p : Worker) × (part_in me.0 n ≡ Some p) × (p.holds ≡ true)) × ((old : ℕ) × (me.1 ≡ (0, old) ∷ []))
+
+-- the worker gave the lock back, and the seat the slot
+abbrev pub Unlocked : ℕ → Me ℕ (View Worker) → Me ℕ (View Worker) → Type 0
+Unlocked n before after =
+    (p : Worker) × (part_in before.0 n ≡ Some p) × (after ≡ (with_part before.0 n (record { draws = p.draws; heard = p.heard; holds = false }), []))

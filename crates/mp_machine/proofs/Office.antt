@@ -1,0 +1,99 @@
+-- The example's invariant holds wherever allowed events lead, and what each of its calls tells follows.
+use Rattle.std.proofs.Common.{◌≡◌, ℕ, ◌+◌, ◌^◌, ◌%◌, ◌<◌, ◌≤◌, List, [], ◌∷◌, length, Bool, true, false, ◌==◌, if◌then◌else◌, Some, refl, sym, ap, ◌∙◌, subst, arith, eq-eqb, ne_eqb, zero, suc}
+use mathlib.Core.Option.{Option, none, some}
+use mathlib.Core.Logic.{dite}
+use native.Mathlib.Decide.{ℕ_discrete}
+use prog.Atomic.{either}
+use Rattle.atomic_table.specs.Table.{Me, carried_after, keeps}
+use Rattle.mp_machine.specs.Machine.{run, AllAllowed}
+use Rattle.mp_machine.specs.View.{View, part_in, with_part}
+use Rattle.mp_machine.specs.Rule.{Word, CanMake, Made, Stored}
+use Rattle.mp_machine.specs.declared.example.Worker.{Worker}
+use Rattle.mp_machine.specs.declared.example.Event.{Event}
+use Rattle.mp_machine.specs.declared.example.Event.TheVariants.{Draw, Total, Lock, Unlock}
+use Rattle.mp_machine.specs.Example.{World, node_of, locks, taking, act, made, Allowed, with_worker, after, office, Inv, CanDraw, Drew, HaveDrawn, HasWorker, Has, CanUnlock, Unlocked}
+use Rattle.mp_machine.specs.ExampleLaws.{worker_here, worker_else}
+use Rattle.mp_machine.proofs.Time.{kept}
+use Rattle.mp_machine.proofs.Views.{with_part-same}
+
+-- a worker that draws no more changes no count
+draws_stay : (f : ℕ → Worker) (n : ℕ) (q : Worker) → q.draws ≡ (f n).draws → (k : ℕ) → (with_worker f n q k).draws ≡ (f k).draws
+draws_stay f n q e k =
+    dite (ℕ_discrete k n)
+        (λ same. ap (λ j. (with_worker f n q j).draws) same ∙ ap (λ (x : Worker). x.draws) (worker_here f n q) ∙ e ∙ ap (λ j. (f j).draws) (sym same))
+        (λ other. ap (λ (x : Worker). x.draws) (worker_else f n k q other))
+
+two_draws : (f : ℕ → Worker) (n : ℕ) (q : Worker) → n < 2 → q.draws ≡ (f n).draws + 1 → (with_worker f n q 0).draws + (with_worker f n q 1).draws ≡ (f 0).draws + (f 1).draws + 1
+two_draws f zero q h e = omega (arith, e)
+two_draws f (suc zero) q h e = omega (arith, e)
+two_draws f (suc (suc n)) q h e = absurd (omega arith)
+
+few_draws : (f : ℕ → Worker) (n : ℕ) (q : Worker) → q.draws ≡ (f n).draws + 1 → (f n).draws < 2 ^ 32 → ((k : ℕ) → (f k).draws ≤ 2 ^ 32) → (k : ℕ) → (with_worker f n q k).draws ≤ 2 ^ 32
+few_draws f n q e h few k =
+    dite (ℕ_discrete k n)
+        (λ same. subst (λ j. (with_worker f n q j).draws ≤ 2 ^ 32) (sym same) (subst (λ (x : Worker). x.draws ≤ 2 ^ 32) (sym (worker_here f n q)) (omega arith)))
+        (λ other. subst (λ (x : Worker). x.draws ≤ 2 ^ 32) (sym (worker_else f n k q other)) (few k))
+
+no_more : (w : World) (i : Inv w) (e : Event) (n : ℕ) (q : Worker) → q.draws ≡ (w.worker n).draws → (k : ℕ) (v : Option ℕ) → (k ≡ 0 → (y : ℕ) × (v ≡ some y))
+    → Inv (record { drawn = w.drawn; locked = k; value = v; worker = with_worker w.worker n q; history = e ∷ w.history })
+no_more w i e n q same k v home = record {
+  counted = i.counted ∙ sym (λ j. draws_stay w.worker n q same 0 j + draws_stay w.worker n q same 1 j);
+  few = λ j. subst (λ (d : ℕ). d ≤ 2 ^ 32) (sym (draws_stay w.worker n q same j)) (i.few j);
+  logged = let l = i.logged in omega arith;
+  at_home = home;
+}
+
+-- a lock that is free has its value at home, before an event and after it
+still_home : (b : Bool) (k : ℕ) (v : Option ℕ) → (k == 0) ≡ b → (k ≡ 0 → (y : ℕ) × (v ≡ some y)) → (if b then 1 else k) ≡ 0 → (y : ℕ) × ((if b then none else v) ≡ some y)
+still_home true k v is home e = absurd (omega arith)
+still_home false k v is home e = home e
+
+keeps_inv : (w : World) (e : Event) (c : List (ℕ × ℕ)) → Inv w → Allowed (w.worker (node_of e)) c e → Inv (after w e)
+keeps_inv w (Draw n) c i may = record {
+  counted = ap (λ d. d + 1) i.counted ∙ sym (two_draws w.worker n (made (Draw n) w.drawn (length w.history) (w.worker n)) may.0 refl);
+  few = few_draws w.worker n (made (Draw n) w.drawn (length w.history) (w.worker n)) refl may.1 i.few;
+  logged = let l = i.logged in omega arith;
+  at_home = i.at_home;
+}
+keeps_inv w (Total n) c i may = no_more w i (Total n) n (w.worker n) refl w.locked w.value i.at_home
+keeps_inv w (Lock n) c i may = no_more w i (Lock n) n (made (Lock n) w.locked (length w.history) (w.worker n)) refl (locks w.locked) (if w.locked == 0 then none else w.value) (still_home (w.locked == 0) w.locked w.value refl i.at_home)
+keeps_inv w (Unlock n y) c i may = no_more w i (Unlock n y) n (made (Unlock n y) w.locked (length w.history) (w.worker n)) refl 0 (some y) (λ _. (y, refl))
+
+pub law_inv : (opening : ℕ) (es : List Event) → AllAllowed (office opening) es → Inv (run (office opening) es)
+law_inv opening = kept (office opening) Inv
+    record { counted = refl; few = λ _. omega arith; logged = omega arith; at_home = λ _. (opening, refl) }
+    (λ es e all i. keeps_inv (run (office opening) es) e all.0.0 i all.0.1)
+
+module _ (opening : ℕ) where
+  draw_word : (n : ℕ) → Word (office opening) (Draw n) (λ k. (k + 1) % 2 ^ 64)
+  draw_word n es all =
+      let i = law_inv opening es all.1 in
+      let count = i.counted in
+      let a = i.few 0 in
+      let b = i.few 1 in
+      omega arith
+
+  pub can_draw : (me : Me ℕ (View Worker)) (n : ℕ) → CanDraw me n → CanMake (office opening) (Draw n) me 0 (λ k. (k + 1) % 2 ^ 64)
+  can_draw me n h = record { place = tt; word_is = refl; mine = h.1.0; holds = h.1.1; allowed = (h.0, h.1.2); changes = draw_word n }
+
+  pub drew : (n : ℕ) (before : Me ℕ (View Worker)) (found : ℕ) (after : Me ℕ (View Worker)) → Made (office opening) (Draw n) before found after → Drew n before found after
+  drew n before found after m =
+      let came = m.4 in
+      let i = law_inv opening came.events came.allowed.1 in
+      let logged = i.logged in
+      let is = came.found_is in
+      let noted = came.noted in
+      (m.0, m.1, (omega arith), m.2, λ j. (m.3 j, came.carries j))
+
+  pub can_total : (me : Me ℕ (View Worker)) → HasWorker me 0 → CanMake (office opening) (Total 0) me 0 (λ k. k)
+  can_total me h = record { place = tt; word_is = refl; mine = h.1.0; holds = h.1.1; allowed = h.0; changes = λ es all. refl }
+
+  pub total_same : (before : Me ℕ (View Worker)) (found : ℕ) (after : Me ℕ (View Worker)) → Made (office opening) (Total 0) before found after → after ≡ before
+  total_same before found after m = λ j. ((m.3 ∙ with_part-same before.0 0 m.1 m.2) j, m.4.carries j)
+
+  -- a seat that holds both workers reads how many numbers they drew
+  pub total_exact : (before : Me ℕ (View Worker)) (found : ℕ) (after : Me ℕ (View Worker)) → Made (office opening) (Total 0) before found after → (p q : Worker) → part_in before.0 0 ≡ Some p → part_in before.0 1 ≡ Some q → found ≡ p.draws + q.draws
+  total_exact before found after m p q first second =
+      let came = m.4 in
+      let i = law_inv opening came.events came.allowed.1 in
+      sym came.found_is ∙ i.counted ∙ (λ j. (came.agreed 0 p first j).draws + (came.agreed 1 q second j).draws)
