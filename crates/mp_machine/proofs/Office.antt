@@ -4,7 +4,7 @@ use mathlib.Core.Option.{Option, none, some}
 use mathlib.Core.Logic.{dite}
 use native.Mathlib.Decide.{ℕ_discrete}
 use prog.Atomic.{either}
-use Rattle.atomic_table.specs.Table.{Me, carried_after, keeps}
+use Rattle.atomic_table.specs.Table.{Me, carried_after, keeps, rest}
 use Rattle.mp_machine.specs.Machine.{run, AllAllowed}
 use Rattle.mp_machine.specs.View.{View, part_in, with_part}
 use Rattle.mp_machine.specs.Rule.{Word, CanMake, Made, Stored}
@@ -97,3 +97,38 @@ module _ (opening : ℕ) where
       let came = m.4 in
       let i = law_inv opening came.events came.allowed.1 in
       sym came.found_is ∙ i.counted ∙ (λ j. (came.agreed 0 p first j).draws + (came.agreed 1 q second j).draws)
+
+  exchanged : (b : Bool) (k : ℕ) → either b 1 k ≡ (if b then 1 else k)
+  exchanged true k = refl
+  exchanged false k = refl
+
+  pub can_lock : (me : Me ℕ (View Worker)) (n : ℕ) → HasWorker me n → CanMake (office opening) (Lock n) me 1 (λ k. either (k == 0) 1 k)
+  can_lock me n h = record { place = tt; word_is = refl; mine = h.1.0; holds = h.1.1; allowed = h.0; changes = λ es all. let k = (run (office opening) es).locked in exchanged (k == 0) k }
+
+  -- who found the lock free has it, and the slot
+  pub got : (n : ℕ) (before : Me ℕ (View Worker)) (found : ℕ) (after : Me ℕ (View Worker)) → Made (office opening) (Lock n) before found after → found ≡ 0 → (y : ℕ) × Has n before y after
+  got n before found after m free =
+      let came = m.4 in
+      let w = run (office opening) came.events in
+      let home = (law_inv opening came.events came.allowed.1).at_home (came.found_is ∙ free) in
+      let part : after.0 ≡ with_part before.0 n (record { draws = m.1.draws; heard = m.1.heard; holds = true }) = m.3 ∙ ap (λ k. with_part before.0 n (made (Lock n) k m.0 m.1)) free in
+      let slot : after.1 ≡ (0, home.0) ∷ before.1 =
+          came.carries ∙ ap (λ k. carried_after before.1 (if k == 0 then taking w.value else keeps)) (came.found_is ∙ free) ∙ ap (λ v. carried_after before.1 (taking v)) home.1 in
+      (home.0, (m.1, m.2, λ j. (part j, slot j)))
+
+  -- for who did not, nothing changed
+  pub missed : (n : ℕ) (before : Me ℕ (View Worker)) (found : ℕ) (after : Me ℕ (View Worker)) → Made (office opening) (Lock n) before found after → ¬ (found ≡ 0) → after ≡ before
+  missed n before found after m held =
+      let came = m.4 in
+      let w = run (office opening) came.events in
+      let part : after.0 ≡ before.0 =
+          m.3 ∙ ap (λ b. with_part before.0 n (record { draws = m.1.draws; heard = m.1.heard; holds = (if b then true else m.1.holds) })) (ne_eqb found 0 held) ∙ with_part-same before.0 n m.1 m.2 in
+      let slot : after.1 ≡ before.1 =
+          came.carries ∙ ap (λ k. carried_after before.1 (if k == 0 then taking w.value else keeps)) came.found_is ∙ ap (λ b. carried_after before.1 (if b then taking w.value else keeps)) (ne_eqb found 0 held) in
+      λ j. (part j, slot j)
+
+  pub can_unlock : (me : Me ℕ (View Worker)) (n y : ℕ) → CanUnlock me n → me.1 ≡ (0, y) ∷ [] → CanMake (office opening) (Unlock n y) me 1 (λ _. 0)
+  can_unlock me n y h carries = record { place = tt; word_is = refl; mine = h.1.0; holds = h.1.1; allowed = (h.0, h.1.2, carries); changes = λ es all. refl }
+
+  pub gave : (n y : ℕ) (before after : Me ℕ (View Worker)) → Stored (office opening) (Unlock n y) before after → before.1 ≡ (0, y) ∷ [] → Unlocked n before after
+  gave n y before after m carries = let t = m.1 in let slot : after.1 ≡ [] = t.4.carries ∙ ap rest carries in (t.1, t.2, λ j. (t.3 j, slot j))

@@ -128,6 +128,10 @@ office opening = record {
   Allowed = Allowed;
 }
 
+-- the second node
+abbrev pub is_second : ℕ → Bool
+is_second n = n == 1
+
 -- What holds in every world that can be reached
 pub record Inv (w : World) : Type 0 where
   pub counted : w.drawn ≡ (w.worker 0).draws + (w.worker 1).draws

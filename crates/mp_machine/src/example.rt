@@ -5,6 +5,10 @@ use crate::ruled_table::{RuledTable, Seat};
 use crate::system::{System, Turn};
 use std::marker::Brand;
 
+mod desk;
+
+pub use desk::Desk;
+
 /// What one node knows. No value of it is made.
 pub struct Worker {
     pub draws: u64,
@@ -45,7 +49,7 @@ impl System for Office {
     ghost laws = { office_laws };
 }
 
-impl Turn<Office> for Brand {
+impl Turn<Event, u64> for Brand {
     ghost use Rattle.mp_machine.specs.declared.example.Event.TheVariants.{Total};
 
     ghost event = { Total 0 };

@@ -31,10 +31,10 @@ pub trait System {
 
 /// The event that a step is, and the opening of its table. A caller passes `Brand`, and picks both in its proof. Its crate
 /// has the `impl` for `Brand`, at its own system and with any event and opening.
-pub trait Turn<M: System> {
-    ghost event: { M.Event };
+pub trait Turn<E, K> {
+    ghost event: { E };
 
-    ghost opening: { M.Opening };
+    ghost opening: { K };
 }
 
 /// The nodes whose parts go to a new seat. A caller passes `Brand`, and picks it in its proof.
