@@ -1,17 +1,17 @@
 -- The example's invariant holds wherever allowed events lead, and what each of its calls tells follows.
-use Rattle.std.proofs.Common.{◌≡◌, ℕ, ◌+◌, ◌^◌, ◌%◌, ◌<◌, ◌≤◌, List, [], ◌∷◌, length, Bool, true, false, ◌==◌, if◌then◌else◌, Some, refl, sym, ap, ◌∙◌, subst, arith, eq-eqb, ne_eqb, zero, suc}
+use Rattle.std.proofs.Common.{◌≡◌, ℕ, ◌+◌, ◌^◌, ◌%◌, ◌<◌, ◌≤◌, List, [], ◌∷◌, length, Bool, true, false, ◌==◌, if◌then◌else◌, Some, None, refl, sym, ap, ◌∙◌, subst, arith, eq-eqb, ne_eqb, zero, suc}
 use mathlib.Core.Option.{Option, none, some}
 use mathlib.Core.Logic.{dite}
 use native.Mathlib.Decide.{ℕ_discrete}
 use prog.Atomic.{either}
 use Rattle.atomic_table.specs.Table.{Me, carried_after, keeps, rest}
 use Rattle.mp_machine.specs.Machine.{run, AllAllowed}
-use Rattle.mp_machine.specs.View.{View, part_in, with_part}
+use Rattle.mp_machine.specs.View.{View, part_in, with_part, joined}
 use Rattle.mp_machine.specs.Rule.{Word, CanMake, Made, Stored}
 use Rattle.mp_machine.specs.declared.example.Worker.{Worker}
 use Rattle.mp_machine.specs.declared.example.Event.{Event}
 use Rattle.mp_machine.specs.declared.example.Event.TheVariants.{Draw, Total, Lock, Unlock}
-use Rattle.mp_machine.specs.Example.{World, node_of, locks, taking, act, made, Allowed, with_worker, after, office, Inv, CanDraw, Drew, HaveDrawn, HasWorker, Has, CanUnlock, Unlocked}
+use Rattle.mp_machine.specs.Example.{World, newcomer, node_of, locks, taking, act, made, Allowed, with_worker, after, office, Inv, CanDraw, Drew, HaveDrawn, HasWorker, Has, CanUnlock, Unlocked}
 use Rattle.mp_machine.specs.ExampleLaws.{worker_here, worker_else}
 use Rattle.mp_machine.proofs.Time.{kept}
 use Rattle.mp_machine.proofs.Views.{with_part-same}
@@ -132,3 +132,26 @@ module _ (opening : ℕ) where
 
   pub gave : (n y : ℕ) (before after : Me ℕ (View Worker)) → Stored (office opening) (Unlock n y) before after → before.1 ≡ (0, y) ∷ [] → Unlocked n before after
   gave n y before after m carries = let t = m.1 in let slot : after.1 ≡ [] = t.4.carries ∙ ap rest carries in (t.1, t.2, λ j. (t.3 j, slot j))
+
+-- two workers that drew one number each, in seats of their own, and were put together
+module _ (i j : ℕ) (a a' b b' : Me ℕ (View Worker)) (a-is : a ≡ (Some newcomer ∷ None ∷ [], [])) (b-is : b ≡ (None ∷ Some newcomer ∷ [], [])) (one : Drew 0 a i a') (other : Drew 1 b j b') where
+  one_now : (q : Worker) × (q.draws ≡ 1) × (a'.0 ≡ Some q ∷ None ∷ [])
+  one_now =
+      let was : Some newcomer ≡ Some one.1 = sym (ap (λ (me : Me ℕ (View Worker)). part_in me.0 0) a-is) ∙ one.3 in
+      let same : newcomer ≡ one.1 = cc in
+      let q : Worker = record { draws = one.1.draws + 1; heard = one.0; holds = one.1.holds } in
+      (q, ap (λ (w : Worker). w.draws + 1) (sym same), ap (λ (me : Me ℕ (View Worker)). me.0) one.4 ∙ ap (λ (me : Me ℕ (View Worker)). with_part me.0 0 q) a-is)
+
+  other_now : (q : Worker) × (q.draws ≡ 1) × (b'.0 ≡ None ∷ Some q ∷ [])
+  other_now =
+      let was : Some newcomer ≡ Some other.1 = sym (ap (λ (me : Me ℕ (View Worker)). part_in me.0 1) b-is) ∙ other.3 in
+      let same : newcomer ≡ other.1 = cc in
+      let q : Worker = record { draws = other.1.draws + 1; heard = other.0; holds = other.1.holds } in
+      (q, ap (λ (w : Worker). w.draws + 1) (sym same), ap (λ (me : Me ℕ (View Worker)). me.0) other.4 ∙ ap (λ (me : Me ℕ (View Worker)). with_part me.0 1 q) b-is)
+
+  pub both_drew : (p : Worker) × (q : Worker) × (part_in (joined a'.0 b'.0) 0 ≡ Some p) × (part_in (joined a'.0 b'.0) 1 ≡ Some q) × (p.draws + q.draws ≡ 2)
+  both_drew =
+      let x = one_now in
+      let y = other_now in
+      let both : joined a'.0 b'.0 ≡ Some x.0 ∷ Some y.0 ∷ [] = λ k. joined (x.2 k) (y.2 k) in
+      (x.0, y.0, ap (λ (v : View Worker). part_in v 0) both, ap (λ (v : View Worker). part_in v 1) both, λ k. x.1 k + y.1 k)

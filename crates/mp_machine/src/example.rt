@@ -6,8 +6,10 @@ use crate::system::{System, Turn};
 use std::marker::Brand;
 
 mod desk;
+mod two;
 
 pub use desk::Desk;
+pub use two::drawn_by_two;
 
 /// What one node knows. No value of it is made.
 pub struct Worker {
