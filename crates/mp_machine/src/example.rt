@@ -51,7 +51,7 @@ impl System for Office {
     ghost laws = { office_laws };
 }
 
-impl Turn<Event, u64> for Brand {
+impl Turn<Office, Event, u64> for Brand {
     ghost use Rattle.mp_machine.specs.declared.example.Event.TheVariants.{Total};
 
     ghost event = { Total 0 };

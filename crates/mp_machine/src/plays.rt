@@ -22,7 +22,7 @@ pub struct Told<M, T> {
     turn: PhantomData<(M, T)>,
 }
 
-impl<M: System, T: Turn<M::Event, M::Opening>> Play<M::Slot, View<M::Part>> for Told<M, T> {
+impl<M: System, T: Turn<M, M::Event, M::Opening>> Play<M::Slot, View<M::Part>> for Told<M, T> {
     ghost then = { λ step before found after. Made (M.machine T.opening) T.event before found after };
 }
 
@@ -30,7 +30,7 @@ pub struct ToldByStore<M, T> {
     turn: PhantomData<(M, T)>,
 }
 
-impl<M: System, T: Turn<M::Event, M::Opening>> Play<M::Slot, View<M::Part>> for ToldByStore<M, T> {
+impl<M: System, T: Turn<M, M::Event, M::Opening>> Play<M::Slot, View<M::Part>> for ToldByStore<M, T> {
     ghost then = { λ step before found after. Stored (M.machine T.opening) T.event before after };
 }
 
@@ -38,7 +38,7 @@ pub struct Looks<M, T> {
     turn: PhantomData<(M, T)>,
 }
 
-impl<M: System, T: Turn<M::Event, M::Opening>> Play<M::Slot, View<M::Part>> for Looks<M, T> {
+impl<M: System, T: Turn<M, M::Event, M::Opening>> Play<M::Slot, View<M::Part>> for Looks<M, T> {
     ghost then = { λ step before found after. Looked (M.machine T.opening) before after };
 }
 

@@ -31,7 +31,7 @@ pub trait System {
 
 /// The event that a step is, and the opening of its table. A caller passes `Brand`, and picks both in its proof. Its crate
 /// has the `impl` for `Brand`, at its own system and with any event and opening.
-pub trait Turn<E, K> {
+pub trait Turn<M, E, K> {
     ghost event: { E };
 
     ghost opening: { K };
