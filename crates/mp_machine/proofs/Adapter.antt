@@ -1,14 +1,14 @@
 -- An event that is allowed keeps the rule: what each step call on the table owes.
-use Rattle.std.proofs.Common.{◌≡◌, ℕ, ◌⊎◌, List, [], ◌∷◌, Option, None, Some, get_or, set, length, refl, sym, ap, ◌∙◌, subst, inl, inr, ⊎_elim, zero, suc, arith}
+use Rattle.std.proofs.Common.{◌≡◌, ℕ, List, [], ◌∷◌, Some, get_or, set, refl, sym, ap, ◌∙◌, subst, ⊎_elim, zero, suc}
 use mathlib.Core.Logic.{dite}
 use mathlib.Core.Option.{some, some-injective, some-ne-none}
 use native.Mathlib.Decide.{ℕ_discrete}
 use lib.ListN.{get_elem?}
-use Rattle.atomic_table.specs.Table.{State, Me, Allows, Act, Valid, stepped, homes_after, carried_after}
+use Rattle.atomic_table.specs.Table.{State, Me, Allows, Valid, stepped, homes_after}
 use Rattle.atomic_table.proofs.Lists.{at_set, set_else}
 use Rattle.mp_machine.specs.Machine.{Machine, run, MayCome, AllAllowed}
-use Rattle.mp_machine.specs.View.{View, part_in, with_part, Agrees}
-use Rattle.mp_machine.specs.Rule.{Laws, Stands, Rule, CanMake, Word, Came, Made, Stored}
+use Rattle.mp_machine.specs.View.{View, part_in, with_part}
+use Rattle.mp_machine.specs.Rule.{Laws, Stands, Rule, CanMake, Word, Came, Made, Stored, Backed}
 use Rattle.mp_machine.proofs.Views.{part_in-with_here, part_in-with_else}
 
 module _ {A : Type 0} where
@@ -31,13 +31,13 @@ module _ {Slot Part Event Place Note World : Type 0} (m : Machine Slot Part Even
       let was = s.words (m.place_of e) placed in
       let new = f (get_or t.words i 0) in
       dite (ℕ_discrete (m.index a) i)
-          (λ here.
-              let same : a ≡ m.place_of e = l.apart a (m.place_of e) is placed here in
-              let value : new ≡ m.content (run m (e ∷ es)) (m.place_of e) = ap f (index_at t.words i (m.content (run m es) (m.place_of e)) 0 was) ∙ word es all ∙ sym (l.content_here es e all) in
-              subst (λ b. get_elem? (set t.words i new) (m.index b) ≡ some (m.content (run m (e ∷ es)) b)) (sym same)
-                  (set_there t.words i (m.content (run m es) (m.place_of e)) new was ∙ ap (λ (n : ℕ). some n) value))
-          (λ there.
-              set_else t.words i (m.index a) new there ∙ s.words a is ∙ ap (λ (n : ℕ). some n) (sym (l.content_else es e all a (λ same. there (ap m.index same)))))
+      (λ here.
+      let same : a ≡ m.place_of e = l.apart a (m.place_of e) is placed here in
+      let value : new ≡ m.content (run m (e ∷ es)) (m.place_of e) = ap f (index_at t.words i (m.content (run m es) (m.place_of e)) 0 was) ∙ word es all ∙ sym (l.content_here es e all) in
+      subst (λ b. get_elem? (set t.words i new) (m.index b) ≡ some (m.content (run m (e ∷ es)) b)) (sym same)
+      (set_there t.words i (m.content (run m es) (m.place_of e)) new was ∙ ap (λ (n : ℕ). some n) value))
+      (λ there.
+      set_else t.words i (m.index a) new there ∙ s.words a is ∙ ap (λ (n : ℕ). some n) (sym (l.content_else es e all a (λ same. there (ap m.index same)))))
 
   -- the parts that seats hold after an event
   held_after : (es : List Event) (e : Event) → AllAllowed m (e ∷ es) → (t : State Slot (View Part)) (s : Stands m (run m es) t) (id : ℕ) (v : View Part) (p : Part)
@@ -48,20 +48,20 @@ module _ {Slot Part Event Place Note World : Type 0} (m : Machine Slot Part Even
       let w = with_part v c q in
       let mine = s.held id v c p at has in
       ⊎_elim
-          (λ (x : (seat ≡ id) × (w ≡ u)).
-              let held : part_in w n ≡ Some r = subst (λ y. part_in y n ≡ Some r) (sym x.1) holds in
-              dite (ℕ_discrete n c)
-                  (λ same.
-                      let new : part_in w n ≡ Some q = subst (λ k. part_in w k ≡ Some q) (sym same) (part_in-with_here v c q p has) in
-                      let value : q ≡ r = cc in
-                      (x.0 ∙ mine.0 ∙ ap s.seat_of (sym same), ap (m.part (run m (e ∷ es))) same ∙ sym is ∙ value))
-                  (λ other.
-                      let old = s.held id v n r at (sym (part_in-with_else v c n q other) ∙ held) in
-                      (x.0 ∙ old.0, l.part_else es e all n other ∙ old.1)))
-          (λ (x : (¬ (seat ≡ id)) × (get_elem? t.views seat ≡ some u)).
-              let old = s.held seat u n r x.1 holds in
-              (old.0, l.part_else es e all n (λ same. x.0 (old.0 ∙ ap s.seat_of same ∙ sym mine.0)) ∙ old.1))
-          (at_set t.views id seat w u there)
+      (λ (x : (seat ≡ id) × (w ≡ u)).
+      let held : part_in w n ≡ Some r = subst (λ y. part_in y n ≡ Some r) (sym x.1) holds in
+      dite (ℕ_discrete n c)
+      (λ same.
+      let new : part_in w n ≡ Some q = subst (λ k. part_in w k ≡ Some q) (sym same) (part_in-with_here v c q p has) in
+      let value : q ≡ r = cc in
+      (x.0 ∙ mine.0 ∙ ap s.seat_of (sym same), ap (m.part (run m (e ∷ es))) same ∙ sym is ∙ value))
+      (λ other.
+      let old = s.held id v n r at (sym (part_in-with_else v c n q other) ∙ held) in
+      (x.0 ∙ old.0, l.part_else es e all n other ∙ old.1)))
+      (λ (x : (¬ (seat ≡ id)) × (get_elem? t.views seat ≡ some u)).
+      let old = s.held seat u n r x.1 holds in
+      (old.0, l.part_else es e all n (λ same. x.0 (old.0 ∙ ap s.seat_of same ∙ sym mine.0)) ∙ old.1))
+      (at_set t.views id seat w u there)
 
   -- the world after an allowed event stands behind the table after the step
   stands_after : (es : List Event) (e : Event) (carried : List (ℕ × Slot)) (may : MayCome m es carried e) (before : AllAllowed m es) → m.IsPlace (m.place_of e) → (f : ℕ → ℕ) → Word m e f
@@ -124,7 +124,21 @@ module _ {Slot Part Event Place Note World : Type 0} (m : Machine Slot Part Even
       let done = steps e me word (λ _. new) can slots id t rule long at small in
       (done.0, done.1, done.2, done.3, (get_or t.words word 0, done.4))
 
--- the same for a family of machines, at the opening that a turn names
+-- What a step told is enough for any law on allowed events: before the event and after it
+module _ {Slot Part Event Place Note World : Type 0} (m : Machine Slot Part Event Place Note World) where
+  pub held_before : (P : World → Type 0) → ((es : List Event) → AllAllowed m es → P (run m es)) → (e : Event) (before : Me Slot (View Part)) (found : ℕ) (x : Note) (after : Me Slot (View Part))
+      → (came : Came m e before found x after) → P (run m came.events)
+  held_before P law e before found x after came = law came.events came.allowed.1
+
+  pub held_after_it : (P : World → Type 0) → ((es : List Event) → AllAllowed m es → P (run m es)) → (e : Event) (before : Me Slot (View Part)) (found : ℕ) (x : Note) (after : Me Slot (View Part))
+      → (came : Came m e before found x after) → P (run m (e ∷ came.events))
+  held_after_it P law e before found x after came = law (e ∷ came.events) came.allowed
+
+  -- the seat is backed after its step
+  pub backed : (e : Event) (before : Me Slot (View Part)) (found : ℕ) (after : Me Slot (View Part)) → Made m e before found after → Backed m after.0
+  backed e before found after made = let came = made.4 in (e ∷ came.events, came.allowed, came.agrees)
+
+-- the adapter for a family of machines, at the opening that a turn names
 module _ {Slot Part Event Place Note World Opening : Type 0} (machine : Opening → Machine Slot Part Event Place Note World) (laws : (o : Opening) → Laws (machine o)) where
   pub turns : (o key : Opening) → o ≡ key → (e : Event) (me : Me Slot (View Part)) (word : ℕ) (f : ℕ → ℕ) → CanMake (machine o) e me word f
       → (slots id : ℕ) → Allows (Rule (machine key)) slots id me word f (Made (machine o) e me)

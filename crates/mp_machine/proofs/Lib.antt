@@ -3,3 +3,4 @@ pub mod Time
 pub mod Adapter
 pub mod Seats
 pub mod Office
+mod Rows

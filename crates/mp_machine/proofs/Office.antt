@@ -1,5 +1,5 @@
 -- The example's invariant holds wherever allowed events lead, and what each of its calls tells follows.
-use Rattle.std.proofs.Common.{◌≡◌, ℕ, ◌+◌, ◌^◌, ◌%◌, ◌<◌, ◌≤◌, List, [], ◌∷◌, length, Bool, true, false, ◌==◌, if◌then◌else◌, Some, None, refl, sym, ap, ◌∙◌, subst, arith, eq-eqb, ne_eqb, zero, suc}
+use Rattle.std.proofs.Common.{◌≡◌, ℕ, ◌+◌, ◌^◌, ◌%◌, ◌<◌, ◌≤◌, List, [], ◌∷◌, length, Bool, true, false, ◌==◌, if◌then◌else◌, Some, None, refl, sym, ap, ◌∙◌, subst, arith, ne_eqb, zero, suc}
 use mathlib.Core.Option.{Option, none, some}
 use mathlib.Core.Logic.{dite}
 use native.Mathlib.Decide.{ℕ_discrete}
@@ -11,17 +11,17 @@ use Rattle.mp_machine.specs.Rule.{Word, CanMake, Made, Stored}
 use Rattle.mp_machine.specs.declared.example.Worker.{Worker}
 use Rattle.mp_machine.specs.declared.example.Event.{Event}
 use Rattle.mp_machine.specs.declared.example.Event.TheVariants.{Draw, Total, Lock, Unlock}
-use Rattle.mp_machine.specs.Example.{World, newcomer, node_of, locks, taking, act, made, Allowed, with_worker, after, office, Inv, CanDraw, Drew, HaveDrawn, HasWorker, Has, CanUnlock, Unlocked}
+use Rattle.mp_machine.specs.Example.{World, newcomer, node_of, locks, taking, made, Allowed, with_worker, after, office, Inv, CanDraw, Drew, HasWorker, Has, CanUnlock, Unlocked}
 use Rattle.mp_machine.specs.ExampleLaws.{worker_here, worker_else}
 use Rattle.mp_machine.proofs.Time.{kept}
-use Rattle.mp_machine.proofs.Views.{with_part-same}
+use Rattle.mp_machine.proofs.Views.{with_part-same, part_in-with_here}
 
 -- a worker that draws no more changes no count
 draws_stay : (f : ℕ → Worker) (n : ℕ) (q : Worker) → q.draws ≡ (f n).draws → (k : ℕ) → (with_worker f n q k).draws ≡ (f k).draws
 draws_stay f n q e k =
     dite (ℕ_discrete k n)
-        (λ same. ap (λ j. (with_worker f n q j).draws) same ∙ ap (λ (x : Worker). x.draws) (worker_here f n q) ∙ e ∙ ap (λ j. (f j).draws) (sym same))
-        (λ other. ap (λ (x : Worker). x.draws) (worker_else f n k q other))
+    (λ same. ap (λ j. (with_worker f n q j).draws) same ∙ ap (λ (x : Worker). x.draws) (worker_here f n q) ∙ e ∙ ap (λ j. (f j).draws) (sym same))
+    (λ other. ap (λ (x : Worker). x.draws) (worker_else f n k q other))
 
 two_draws : (f : ℕ → Worker) (n : ℕ) (q : Worker) → n < 2 → q.draws ≡ (f n).draws + 1 → (with_worker f n q 0).draws + (with_worker f n q 1).draws ≡ (f 0).draws + (f 1).draws + 1
 two_draws f zero q h e = omega (arith, e)
@@ -31,8 +31,8 @@ two_draws f (suc (suc n)) q h e = absurd (omega arith)
 few_draws : (f : ℕ → Worker) (n : ℕ) (q : Worker) → q.draws ≡ (f n).draws + 1 → (f n).draws < 2 ^ 32 → ((k : ℕ) → (f k).draws ≤ 2 ^ 32) → (k : ℕ) → (with_worker f n q k).draws ≤ 2 ^ 32
 few_draws f n q e h few k =
     dite (ℕ_discrete k n)
-        (λ same. subst (λ j. (with_worker f n q j).draws ≤ 2 ^ 32) (sym same) (subst (λ (x : Worker). x.draws ≤ 2 ^ 32) (sym (worker_here f n q)) (omega arith)))
-        (λ other. subst (λ (x : Worker). x.draws ≤ 2 ^ 32) (sym (worker_else f n k q other)) (few k))
+    (λ same. subst (λ j. (with_worker f n q j).draws ≤ 2 ^ 32) (sym same) (subst (λ (x : Worker). x.draws ≤ 2 ^ 32) (sym (worker_here f n q)) (omega arith)))
+    (λ other. subst (λ (x : Worker). x.draws ≤ 2 ^ 32) (sym (worker_else f n k q other)) (few k))
 
 no_more : (w : World) (i : Inv w) (e : Event) (n : ℕ) (q : Worker) → q.draws ≡ (w.worker n).draws → (k : ℕ) (v : Option ℕ) → (k ≡ 0 → (y : ℕ) × (v ≡ some y))
     → Inv (record { drawn = w.drawn; locked = k; value = v; worker = with_worker w.worker n q; history = e ∷ w.history })
@@ -113,7 +113,7 @@ module _ (opening : ℕ) where
       let home = (law_inv opening came.events came.allowed.1).at_home (came.found_is ∙ free) in
       let part : after.0 ≡ with_part before.0 n (record { draws = m.1.draws; heard = m.1.heard; holds = true }) = m.3 ∙ ap (λ k. with_part before.0 n (made (Lock n) k m.0 m.1)) free in
       let slot : after.1 ≡ (0, home.0) ∷ before.1 =
-          came.carries ∙ ap (λ k. carried_after before.1 (if k == 0 then taking w.value else keeps)) (came.found_is ∙ free) ∙ ap (λ v. carried_after before.1 (taking v)) home.1 in
+      came.carries ∙ ap (λ k. carried_after before.1 (if k == 0 then taking w.value else keeps)) (came.found_is ∙ free) ∙ ap (λ v. carried_after before.1 (taking v)) home.1 in
       (home.0, (m.1, m.2, λ j. (part j, slot j)))
 
   -- for who did not, nothing changed
@@ -122,9 +122,9 @@ module _ (opening : ℕ) where
       let came = m.4 in
       let w = run (office opening) came.events in
       let part : after.0 ≡ before.0 =
-          m.3 ∙ ap (λ b. with_part before.0 n (record { draws = m.1.draws; heard = m.1.heard; holds = (if b then true else m.1.holds) })) (ne_eqb found 0 held) ∙ with_part-same before.0 n m.1 m.2 in
+      m.3 ∙ ap (λ b. with_part before.0 n (record { draws = m.1.draws; heard = m.1.heard; holds = (if b then true else m.1.holds) })) (ne_eqb found 0 held) ∙ with_part-same before.0 n m.1 m.2 in
       let slot : after.1 ≡ before.1 =
-          came.carries ∙ ap (λ k. carried_after before.1 (if k == 0 then taking w.value else keeps)) came.found_is ∙ ap (λ b. carried_after before.1 (if b then taking w.value else keeps)) (ne_eqb found 0 held) in
+      came.carries ∙ ap (λ k. carried_after before.1 (if k == 0 then taking w.value else keeps)) came.found_is ∙ ap (λ b. carried_after before.1 (if b then taking w.value else keeps)) (ne_eqb found 0 held) in
       λ j. (part j, slot j)
 
   pub can_unlock : (me : Me ℕ (View Worker)) (n y : ℕ) → CanUnlock me n → me.1 ≡ (0, y) ∷ [] → CanMake (office opening) (Unlock n y) me 1 (λ _. 0)
@@ -132,6 +132,14 @@ module _ (opening : ℕ) where
 
   pub gave : (n y : ℕ) (before after : Me ℕ (View Worker)) → Stored (office opening) (Unlock n y) before after → before.1 ≡ (0, y) ∷ [] → Unlocked n before after
   gave n y before after m carries = let t = m.1 in let slot : after.1 ≡ [] = t.4.carries ∙ ap rest carries in (t.1, t.2, λ j. (t.3 j, slot j))
+
+-- who has the lock may give it back
+pub has_unlock : (n : ℕ) (before : Me ℕ (View Worker)) (value : ℕ) (after : Me ℕ (View Worker)) → n < 2 → before.1 ≡ [] → Has n before value after → CanUnlock after n
+has_unlock n before value after small empty has =
+    let q : Worker = record { draws = has.0.draws; heard = has.0.heard; holds = true } in
+    let part : part_in after.0 n ≡ Some q = ap (λ (me : Me ℕ (View Worker)). part_in me.0 n) has.2 ∙ part_in-with_here before.0 n q has.0 has.1 in
+    let slot : after.1 ≡ (0, value) ∷ [] = ap (λ (me : Me ℕ (View Worker)). me.1) has.2 ∙ ap (λ xs. (0, value) ∷ xs) empty in
+    (small, (q, part, refl), (value, slot))
 
 -- two workers that drew one number each, in seats of their own, and were put together
 module _ (i j : ℕ) (a a' b b' : Me ℕ (View Worker)) (a-is : a ≡ (Some newcomer ∷ None ∷ [], [])) (b-is : b ≡ (None ∷ Some newcomer ∷ [], [])) (one : Drew 0 a i a') (other : Drew 1 b j b') where

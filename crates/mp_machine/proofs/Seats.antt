@@ -1,15 +1,13 @@
 -- The rule at the opening, at a split, at a join, at a look and at the close.
-use Rattle.std.proofs.Common.{◌≡◌, ℕ, ◌⊎◌, List, [], ◌∷◌, ◌++◌, Option, None, Some, Bool, true, false, not, ◌&&◌, if◌then◌else◌, eqb, get_or, set, length, refl, sym, ap, ◌∙◌, subst, inl, inr, ⊎_elim, zero, suc, arith, eq-eqb, ne_eqb, length-set}
-use mathlib.Core.Logic.{dite}
+use Rattle.std.proofs.Common.{◌≡◌, ℕ, ◌⊎◌, List, [], ◌∷◌, ◌++◌, Option, None, Some, Bool, true, false, not, ◌&&◌, if◌then◌else◌, eqb, get_or, set, length, refl, sym, ap, ◌∙◌, subst, inl, inr, ⊎_elim, zero, suc, eq-eqb, ne_eqb}
 use mathlib.Core.Option.{some, some-injective, some-ne-none}
-use native.Mathlib.Decide.{ℕ_discrete}
 use lib.ListN.{get_elem?}
 use lib.Seq.{set-get_or}
 use Rattle.atomic_table.specs.Table.{State, Me, Allows, Splits, Joins, Final, Seen, keeps, opening}
 use Rattle.atomic_table.proofs.Lists.{at_set, set_again}
-use Rattle.mp_machine.specs.Machine.{Machine, run, AllAllowed}
-use Rattle.mp_machine.specs.View.{View, part_in, only, without, either_part, joined, Agrees}
-use Rattle.mp_machine.specs.Rule.{Stands, Opens, all_parts, Rule, Backed, Looked, Ends}
+use Rattle.mp_machine.specs.Machine.{Machine, run}
+use Rattle.mp_machine.specs.View.{View, part_in, only, without, either_part, joined}
+use Rattle.mp_machine.specs.Rule.{Stands, Opens, all_parts, Rule, Looked, Ends}
 use Rattle.mp_machine.proofs.Views.{part_in-only, part_in-joined, Agrees-whole}
 
 module _ {A : Type 0} where
@@ -44,9 +42,9 @@ never false x y = refl
 stays : (test : ℕ → Bool) (id new : ℕ) (owner : ℕ → ℕ) (n : ℕ) → (test n ≡ false) ⊎ (¬ (owner n ≡ id)) → split_owner test id new owner n ≡ owner n
 stays test id new owner n h =
     ⊎_elim
-        (λ (e : test n ≡ false). ap (λ b. if b && eqb (owner n) id then new else owner n) e)
-        (λ (d : ¬ (owner n ≡ id)). ap (λ b. if test n && b then new else owner n) (ne_eqb (owner n) id d) ∙ never (test n) new (owner n))
-        h
+    (λ (e : test n ≡ false). ap (λ b. if b && eqb (owner n) id then new else owner n) e)
+    (λ (d : ¬ (owner n ≡ id)). ap (λ b. if test n && b then new else owner n) (ne_eqb (owner n) id d) ∙ never (test n) new (owner n))
+    h
 
 moves : (test : ℕ → Bool) (id new : ℕ) (owner : ℕ → ℕ) (n : ℕ) → test n ≡ true → owner n ≡ id → split_owner test id new owner n ≡ new
 moves test id new owner n passed mine = ap (λ b. if b && eqb (owner n) id then new else owner n) passed ∙ ap (λ b. if b then new else owner n) (eq-eqb (owner n) id mine)
@@ -69,6 +67,10 @@ module _ {Slot Part Event Place Note World : Type 0} (m : Machine Slot Part Even
       one zero v n p e has = (refl, Agrees-whole (m.part m.start) m.nodes n p (subst (λ u. part_in u n ≡ Some p) (sym (some-injective _ _ e)) has))
       one (suc seat) v n p e has = absurd (some-ne-none v (sym e))
 
+  -- no two seats hold one part
+  pub one_holder : (w : World) (t : State Slot (View Part)) → Stands m w t → (i j : ℕ) (v u : View Part) (n : ℕ) (p q : Part) → get_elem? t.views i ≡ some v → get_elem? t.views j ≡ some u → part_in v n ≡ Some p → part_in u n ≡ Some q → i ≡ j
+  one_holder w t s i j v u n p q first second has holds = (s.held i v n p first has).0 ∙ sym (s.held j u n q second holds).0
+
   pub splits : (test : ℕ → Bool) (id : ℕ) (v : View Part) → Splits (Rule m) id v (without test v) (only test v)
   splits test id v t rule at =
       let s = rule.2 in
@@ -82,21 +84,21 @@ module _ {Slot Part Event Place Note World : Type 0} (m : Machine Slot Part Even
           seat_of = split_owner test id new s.seat_of;
           held = λ seat u n r there holds.
               ⊎_elim
-                  (λ (old : get_elem? lefts seat ≡ some u).
-                      ⊎_elim
-                          (λ (mine : (seat ≡ id) × (without test v ≡ u)).
-                              let half = fails (test n) (part_in v n) r (sym (part_in-only (λ k. not (test k)) v n) ∙ ap (λ y. part_in y n) mine.1 ∙ holds) in
-                              let was = s.held id v n r at half.1 in
-                              (mine.0 ∙ was.0 ∙ sym (stays test id new s.seat_of n (inl half.0)), was.1))
-                          (λ (other : (¬ (seat ≡ id)) × (get_elem? t.views seat ≡ some u)).
-                              let was = s.held seat u n r other.1 holds in
-                              (was.0 ∙ sym (stays test id new s.seat_of n (inr (λ e. other.0 (was.0 ∙ e)))), was.1))
-                          (at_set t.views id seat (without test v) u old))
-                  (λ (fresh : (seat ≡ new) × (only test v ≡ u)).
-                      let half = passes (test n) (part_in v n) r (sym (part_in-only test v n) ∙ ap (λ y. part_in y n) fresh.1 ∙ holds) in
-                      let was = s.held id v n r at half.1 in
-                      (fresh.0 ∙ sym (moves test id new s.seat_of n half.0 (sym was.0)), was.1))
-                  (at_end lefts (only test v) u seat there);
+              (λ (old : get_elem? lefts seat ≡ some u).
+              ⊎_elim
+              (λ (mine : (seat ≡ id) × (without test v ≡ u)).
+              let half = fails (test n) (part_in v n) r (sym (part_in-only (λ k. not (test k)) v n) ∙ ap (λ y. part_in y n) mine.1 ∙ holds) in
+              let was = s.held id v n r at half.1 in
+              (mine.0 ∙ was.0 ∙ sym (stays test id new s.seat_of n (inl half.0)), was.1))
+              (λ (other : (¬ (seat ≡ id)) × (get_elem? t.views seat ≡ some u)).
+              let was = s.held seat u n r other.1 holds in
+              (was.0 ∙ sym (stays test id new s.seat_of n (inr (λ e. other.0 (was.0 ∙ e)))), was.1))
+              (at_set t.views id seat (without test v) u old))
+              (λ (fresh : (seat ≡ new) × (only test v ≡ u)).
+              let half = passes (test n) (part_in v n) r (sym (part_in-only test v n) ∙ ap (λ y. part_in y n) fresh.1 ∙ holds) in
+              let was = s.held id v n r at half.1 in
+              (fresh.0 ∙ sym (moves test id new s.seat_of n half.0 (sym was.0)), was.1))
+              (at_end lefts (only test v) u seat there);
         },
       )
 
@@ -113,23 +115,23 @@ module _ {Slot Part Event Place Note World : Type 0} (m : Machine Slot Part Even
           seat_of = join_owner id other s.seat_of;
           held = λ seat u n r found holds.
               ⊎_elim
-                  (λ (spent : (seat ≡ other) × ([] ≡ u)). let none : part_in [] n ≡ Some r = ap (λ (y : View Part). part_in y n) spent.1 ∙ holds in absurd (cc))
-                  (λ (x : (¬ (seat ≡ other)) × (get_elem? both seat ≡ some u)).
-                      ⊎_elim
-                          (λ (mine : (seat ≡ id) × (joined v w ≡ u)).
-                              ⊎_elim
-                                  (λ (first : part_in v n ≡ Some r).
-                                      let was = s.held id v n r at first in
-                                      (mine.0 ∙ was.0 ∙ sym (left_alone id other s.seat_of n (λ e. apart (sym e ∙ sym was.0))), was.1))
-                                  (λ (second : part_in w n ≡ Some r).
-                                      let was = s.held other w n r theirs second in
-                                      (mine.0 ∙ sym (taken id other s.seat_of n (sym was.0)), was.1))
-                                  (from_either (part_in v n) (part_in w n) r (sym (part_in-joined v w n) ∙ ap (λ y. part_in y n) mine.1 ∙ holds)))
-                          (λ (old : (¬ (seat ≡ id)) × (get_elem? t.views seat ≡ some u)).
-                              let was = s.held seat u n r old.1 holds in
-                              (was.0 ∙ sym (left_alone id other s.seat_of n (λ e. x.0 (was.0 ∙ e))), was.1))
-                          (at_set t.views id seat (joined v w) u x.1))
-                  (at_set both other seat [] u found);
+              (λ (spent : (seat ≡ other) × ([] ≡ u)). let none : part_in [] n ≡ Some r = ap (λ (y : View Part). part_in y n) spent.1 ∙ holds in absurd (cc))
+              (λ (x : (¬ (seat ≡ other)) × (get_elem? both seat ≡ some u)).
+              ⊎_elim
+              (λ (mine : (seat ≡ id) × (joined v w ≡ u)).
+              ⊎_elim
+              (λ (first : part_in v n ≡ Some r).
+              let was = s.held id v n r at first in
+              (mine.0 ∙ was.0 ∙ sym (left_alone id other s.seat_of n (λ e. apart (sym e ∙ sym was.0))), was.1))
+              (λ (second : part_in w n ≡ Some r).
+              let was = s.held other w n r theirs second in
+              (mine.0 ∙ sym (taken id other s.seat_of n (sym was.0)), was.1))
+              (from_either (part_in v n) (part_in w n) r (sym (part_in-joined v w n) ∙ ap (λ y. part_in y n) mine.1 ∙ holds)))
+              (λ (old : (¬ (seat ≡ id)) × (get_elem? t.views seat ≡ some u)).
+              let was = s.held seat u n r old.1 holds in
+              (was.0 ∙ sym (left_alone id other s.seat_of n (λ e. x.0 (was.0 ∙ e))), was.1))
+              (at_set t.views id seat (joined v w) u x.1))
+              (at_set both other seat [] u found);
         },
       )
 

@@ -1,5 +1,5 @@
 -- Facts of every list of allowed events: by induction, and from last-first to the order of time and back.
-use Rattle.std.proofs.Common.{◌≡◌, List, [], ◌∷◌, refl, sym, subst}
+use Rattle.std.proofs.Common.{◌≡◌, List, [], ◌∷◌, refl, subst}
 use Rattle.mp_machine.specs.Machine.{Machine, run, AllAllowed, turned_onto, run_from, AllowedFrom}
 
 module _ {Slot Part Event Place Note World : Type 0} (m : Machine Slot Part Event Place Note World) where

@@ -1,6 +1,6 @@
 -- What a view holds after a change of one part, a cut, and a join.
-use Rattle.std.proofs.Common.{◌≡◌, ℕ, zero, suc, List, [], ◌∷◌, Option, None, Some, Bool, true, false, not, if◌then◌else◌, ◌<◌, refl, sym, ap, ◌∙◌, arith}
-use Rattle.mp_machine.specs.View.{View, part_in, with_part, only, without, either_part, joined, whole, Agrees}
+use Rattle.std.proofs.Common.{◌≡◌, ℕ, zero, suc, [], ◌∷◌, Option, None, Some, Bool, true, false, if◌then◌else◌, ◌<◌, refl, sym, ap, arith}
+use Rattle.mp_machine.specs.View.{View, part_in, with_part, only, either_part, joined, whole, Agrees}
 
 module _ {Part : Type 0} where
   pub part_in-with_here : (v : View Part) (n : ℕ) (p q : Part) → part_in v n ≡ Some q → part_in (with_part v n p) n ≡ Some p

@@ -149,10 +149,6 @@ Drew n before found after =
     (heard : ℕ) × (p : Worker) × (found ≤ heard) × (part_in before.0 n ≡ Some p)
     × (after ≡ (with_part before.0 n (record { draws = p.draws + 1; heard = heard; holds = p.holds }), before.1))
 
--- the seat holds both workers, and this is how many numbers they drew together
-abbrev pub HaveDrawn : Me ℕ (View Worker) → ℕ → Type 0
-HaveDrawn me count = (p : Worker) × (q : Worker) × (part_in me.0 0 ≡ Some p) × (part_in me.0 1 ≡ Some q) × (count ≡ p.draws + q.draws)
-
 -- the seat holds the node's worker
 abbrev pub HasWorker : Me ℕ (View Worker) → ℕ → Type 0
 HasWorker me n = (n < 2) × ((p : Worker) × (part_in me.0 n ≡ Some p))

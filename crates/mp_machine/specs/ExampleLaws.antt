@@ -1,16 +1,13 @@
 -- The example's machine has the laws.
-use Rattle.std.proofs.Common.{◌≡◌, ℕ, ◌+◌, ◌^◌, ◌<◌, ◌≤◌, ◌%◌, ◌⊎◌, List, [], ◌∷◌, length, Bool, true, false, ◌==◌, if◌then◌else◌, eqb, Some, refl, sym, ap, ◌∙◌, subst, inl, inr, ⊎_elim, arith, eq-eqb, ne_eqb, zero, suc}
-use mathlib.Core.Option.{Option, none, some, some-ne-none}
-use mathlib.Core.Logic.{dite}
-use native.Mathlib.Decide.{ℕ_discrete}
-use lib.ListN.{get_elem?}
-use Rattle.atomic_table.specs.Table.{Act, Valid, homes_after, keeps, takes, gives}
-use Rattle.mp_machine.specs.Machine.{run, MayCome, AllAllowed}
+use Rattle.std.proofs.Common.{◌≡◌, ℕ, List, [], ◌∷◌, length, Bool, true, false, ◌==◌, if◌then◌else◌, refl, sym, ap, subst, arith, eq-eqb, ne_eqb}
+use mathlib.Core.Option.{Option, none, some}
+use Rattle.atomic_table.specs.Table.{Valid, homes_after, keeps, gives}
+use Rattle.mp_machine.specs.Machine.{run}
 use Rattle.mp_machine.specs.Rule.{Laws}
 use Rattle.mp_machine.specs.declared.example.Worker.{Worker}
 use Rattle.mp_machine.specs.declared.example.Event.{Event}
 use Rattle.mp_machine.specs.declared.example.Event.TheVariants.{Draw, Total, Lock, Unlock}
-use Rattle.mp_machine.specs.Example.{Place, counter, lock, World, content, index, node_of, place_of, locks, word_after, taking, act, made, Allowed, with_worker, after, office}
+use Rattle.mp_machine.specs.Example.{Place, counter, lock, World, content, index, node_of, place_of, word_after, taking, act, made, Allowed, with_worker, after, office}
 
 pub worker_here : (f : ℕ → Worker) (n : ℕ) (p : Worker) → with_worker f n p n ≡ p
 worker_here f n p = ap (λ b. if b then p else f n) (eq-eqb n n refl)

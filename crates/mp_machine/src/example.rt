@@ -32,8 +32,11 @@ pub struct Office;
 
 impl System for Office {
     type Slot = u64;
+
     type Part = Worker;
+
     type Opening = u64;
+
     type Event = Event;
 
     ghost use Rattle.mp_machine.specs.Example.{Place as Where, World as All, office};

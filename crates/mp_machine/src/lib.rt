@@ -10,3 +10,6 @@ mod system;
 
 pub use ruled_table::{RuledTable, Seat, View};
 pub use system::{Cut, System, Turn};
+
+#[cfg(test)]
+mod tests;

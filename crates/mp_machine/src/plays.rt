@@ -30,7 +30,8 @@ pub struct ToldByStore<M, T> {
     turn: PhantomData<(M, T)>,
 }
 
-impl<M: System, T: Turn<M, M::Event, M::Opening>> Play<M::Slot, View<M::Part>> for ToldByStore<M, T> {
+impl<M: System, T: Turn<M, M::Event, M::Opening>> Play<M::Slot, View<M::Part>>
+    for ToldByStore<M, T> {
     ghost then = { λ step before found after. Stored (M.machine T.opening) T.event before after };
 }
 

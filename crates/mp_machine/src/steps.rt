@@ -14,7 +14,12 @@ use crate::system::{System, Turn};
 
 impl<M: System> RuledTable<M> {
     /// Reads the word, which stays.
-    pub fn load<T: Turn<M, M::Event, M::Opening>, A>(&self, seat: &mut Seat<M>, word: usize, _about: &A) -> u64
+    pub fn load<T: Turn<M, M::Event, M::Opening>, A>(
+        &self,
+        seat: &mut Seat<M>,
+        word: usize,
+        _about: &A,
+    ) -> u64
         requires table { (seat.old.table_id ≡ self.now.table.shared.table_id) × (T.opening ≡ self.now.table.shared.key) × (word < self.now.table.shared.table_id.words) }
         requires event { CanMake (M.machine T.opening) T.event seat.old.me word (λ n. n) }
         ensures seat { (seat.new.table_id ≡ seat.old.table_id) × (seat.new.id ≡ seat.old.id) }
@@ -24,17 +29,31 @@ impl<M: System> RuledTable<M> {
     }
 
     /// Writes the word, whatever it was.
-    pub fn store<T: Turn<M, M::Event, M::Opening>, A>(&self, seat: &mut Seat<M>, word: usize, new: u64, _about: &A)
+    pub fn store<T: Turn<M, M::Event, M::Opening>, A>(
+        &self,
+        seat: &mut Seat<M>,
+        word: usize,
+        new: u64,
+        _about: &A,
+    )
         requires table { (seat.old.table_id ≡ self.now.table.shared.table_id) × (T.opening ≡ self.now.table.shared.key) × (word < self.now.table.shared.table_id.words) }
         requires event { CanMake (M.machine T.opening) T.event seat.old.me word (λ _. new) }
         ensures seat { (seat.new.table_id ≡ seat.old.table_id) × (seat.new.id ≡ seat.old.id) }
         ensures event { Stored (M.machine T.opening) T.event seat.old.me seat.new.me }
     {
-        self.table.shared.store::<ToldByStore<M, T>>(seat, word, new);
+        self.table
+            .shared
+            .store::<ToldByStore<M, T>>(seat, word, new);
     }
 
     /// Writes the word, and returns what it was.
-    pub fn swap<T: Turn<M, M::Event, M::Opening>, A>(&self, seat: &mut Seat<M>, word: usize, new: u64, _about: &A) -> u64
+    pub fn swap<T: Turn<M, M::Event, M::Opening>, A>(
+        &self,
+        seat: &mut Seat<M>,
+        word: usize,
+        new: u64,
+        _about: &A,
+    ) -> u64
         requires table { (seat.old.table_id ≡ self.now.table.shared.table_id) × (T.opening ≡ self.now.table.shared.key) × (word < self.now.table.shared.table_id.words) }
         requires event { CanMake (M.machine T.opening) T.event seat.old.me word (λ _. new) }
         ensures seat { (seat.new.table_id ≡ seat.old.table_id) × (seat.new.id ≡ seat.old.id) }
@@ -44,7 +63,13 @@ impl<M: System> RuledTable<M> {
     }
 
     /// Adds to the word, round at 2^64, and returns what it was.
-    pub fn fetch_add<T: Turn<M, M::Event, M::Opening>, A>(&self, seat: &mut Seat<M>, word: usize, k: u64, _about: &A) -> u64
+    pub fn fetch_add<T: Turn<M, M::Event, M::Opening>, A>(
+        &self,
+        seat: &mut Seat<M>,
+        word: usize,
+        k: u64,
+        _about: &A,
+    ) -> u64
         requires table { (seat.old.table_id ≡ self.now.table.shared.table_id) × (T.opening ≡ self.now.table.shared.key) × (word < self.now.table.shared.table_id.words) }
         requires event { CanMake (M.machine T.opening) T.event seat.old.me word (λ n. (n + k) % 2 ^ 64) }
         ensures seat { (seat.new.table_id ≡ seat.old.table_id) × (seat.new.id ≡ seat.old.id) }
@@ -54,7 +79,13 @@ impl<M: System> RuledTable<M> {
     }
 
     /// Keeps the bits of `k`, and returns what the word was.
-    pub fn fetch_and<T: Turn<M, M::Event, M::Opening>, A>(&self, seat: &mut Seat<M>, word: usize, k: u64, _about: &A) -> u64
+    pub fn fetch_and<T: Turn<M, M::Event, M::Opening>, A>(
+        &self,
+        seat: &mut Seat<M>,
+        word: usize,
+        k: u64,
+        _about: &A,
+    ) -> u64
         requires table { (seat.old.table_id ≡ self.now.table.shared.table_id) × (T.opening ≡ self.now.table.shared.key) × (word < self.now.table.shared.table_id.words) }
         requires event { CanMake (M.machine T.opening) T.event seat.old.me word (λ n. bit_and n k) }
         ensures seat { (seat.new.table_id ≡ seat.old.table_id) × (seat.new.id ≡ seat.old.id) }
@@ -64,7 +95,13 @@ impl<M: System> RuledTable<M> {
     }
 
     /// Sets the bits of `k`, and returns what the word was.
-    pub fn fetch_or<T: Turn<M, M::Event, M::Opening>, A>(&self, seat: &mut Seat<M>, word: usize, k: u64, _about: &A) -> u64
+    pub fn fetch_or<T: Turn<M, M::Event, M::Opening>, A>(
+        &self,
+        seat: &mut Seat<M>,
+        word: usize,
+        k: u64,
+        _about: &A,
+    ) -> u64
         requires table { (seat.old.table_id ≡ self.now.table.shared.table_id) × (T.opening ≡ self.now.table.shared.key) × (word < self.now.table.shared.table_id.words) }
         requires event { CanMake (M.machine T.opening) T.event seat.old.me word (λ n. bit_or n k) }
         ensures seat { (seat.new.table_id ≡ seat.old.table_id) × (seat.new.id ≡ seat.old.id) }
@@ -74,13 +111,22 @@ impl<M: System> RuledTable<M> {
     }
 
     /// Writes `new` if the word is `old`, and returns what it was.
-    pub fn compare_exchange<T: Turn<M, M::Event, M::Opening>, A>(&self, seat: &mut Seat<M>, word: usize, old: u64, new: u64, _about: &A) -> u64
+    pub fn compare_exchange<T: Turn<M, M::Event, M::Opening>, A>(
+        &self,
+        seat: &mut Seat<M>,
+        word: usize,
+        old: u64,
+        new: u64,
+        _about: &A,
+    ) -> u64
         requires table { (seat.old.table_id ≡ self.now.table.shared.table_id) × (T.opening ≡ self.now.table.shared.key) × (word < self.now.table.shared.table_id.words) }
         requires event { CanMake (M.machine T.opening) T.event seat.old.me word (λ n. either (n == old) new n) }
         ensures seat { (seat.new.table_id ≡ seat.old.table_id) × (seat.new.id ≡ seat.old.id) }
         ensures event { Made (M.machine T.opening) T.event seat.old.me result seat.new.me }
     {
-        self.table.shared.compare_exchange::<Told<M, T>>(seat, word, old, new)
+        self.table
+            .shared
+            .compare_exchange::<Told<M, T>>(seat, word, old, new)
     }
 
     /// Puts a value into the slot that the seat took last, and returns what the slot held. No other thread can reach it.

@@ -1,6 +1,5 @@
 use Rattle.std.proofs.Common.{◌∷◌, ap, ◌∙◌, sym, rules}
 use Rattle.atomic_table.specs.Table.{rest}
-use Rattle.mp_machine.specs.View.{with_part}
 use Rattle.mp_machine.proofs.Office.{got}
 use Rattle.mp_machine.proofs.example.desk.Desk.lock.Goals as goal
 
