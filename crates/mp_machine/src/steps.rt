@@ -1,8 +1,9 @@
 //! Steps on one word. Each is one event of a node whose part the seat holds, and may take a slot or give one back.
 //!
 //! `_about` is for the proof alone: a caller picks the event from what a call is passed, so it passes here what the event
-//! names, as the number of its node. A step returns the word as it was. `Made` says what the seat knows then: the event came after others that were
-//! allowed, and the part is what the event makes of the word found, its note and the part before.
+//! names, as the number of its node. A step returns the word as it was. `Made` says what the seat knows then: the event
+//! came after others that were allowed, and the part is what the event makes of the word found, its note and the part
+//! before.
 ghost use Rattle.std.specs.Prelude.{◌≡◌, ◌+◌, ◌%◌, ◌^◌, ◌<◌, ◌==◌, ◌∷◌, bit_and, bit_or};
 ghost use prog.Atomic.{either};
 ghost use Rattle.atomic_table.specs.Table.{rest};
