@@ -11,7 +11,7 @@ use Rattle.mp_machine.specs.Rule.{Word, CanMake, Made, Stored}
 use Rattle.mp_machine.specs.declared.example.Worker.{Worker}
 use Rattle.mp_machine.specs.declared.example.Event.{Event}
 use Rattle.mp_machine.specs.declared.example.Event.TheVariants.{Draw, Total, Lock, Unlock}
-use Rattle.mp_machine.specs.Example.{World, newcomer, node_of, locks, taking, made, Allowed, with_worker, after, office, Inv, CanDraw, Drew, HasWorker, Has, CanUnlock, Unlocked}
+use Rattle.mp_machine.specs.Example.{World, newcomer, node_of, locks, taking, made, Allowed, with_worker, after, office, Inv, CanDraw, Drew, HasWorker, Has, CanUnlock, Unlocked, WasHeld}
 use Rattle.mp_machine.specs.ExampleLaws.{worker_here, worker_else}
 use Rattle.mp_machine.proofs.Time.{kept}
 use Rattle.mp_machine.proofs.Views.{with_part-same, part_in-with_here}
@@ -126,6 +126,9 @@ module _ (opening : ℕ) where
       let slot : after.1 ≡ before.1 =
       came.carries ∙ ap (λ k. carried_after before.1 (if k == 0 then taking w.value else keeps)) came.found_is ∙ ap (λ b. carried_after before.1 (if b then taking w.value else keeps)) (ne_eqb found 0 held) in
       λ j. (part j, slot j)
+
+  pub was_held : (n : ℕ) (before : Me ℕ (View Worker)) (found : ℕ) (after : Me ℕ (View Worker)) → Made (office opening) (Lock n) before found after → ¬ (found ≡ 0) → WasHeld opening before.0
+  was_held n before found after m held = let came = m.4 in (came.events, came.allowed.1, came.agreed, λ free. held (sym came.found_is ∙ free))
 
   pub can_unlock : (me : Me ℕ (View Worker)) (n y : ℕ) → CanUnlock me n → me.1 ≡ (0, y) ∷ [] → CanMake (office opening) (Unlock n y) me 1 (λ _. 0)
   can_unlock me n y h carries = record { place = tt; word_is = refl; mine = h.1.0; holds = h.1.1; allowed = (h.0, h.1.2, carries); changes = λ es all. refl }

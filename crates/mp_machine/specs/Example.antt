@@ -2,8 +2,8 @@
 use Rattle.std.specs.Prelude.{◌≡◌, ℕ, ◌+◌, ◌^◌, ◌<◌, ◌≤◌, List, [], ◌∷◌, length, Bool, true, false, ◌==◌, if◌then◌else◌, Some}
 use mathlib.Core.Option.{Option, none, some}
 use Rattle.atomic_table.specs.Table.{Me, Act, keeps, takes, gives}
-use Rattle.mp_machine.specs.Machine.{Machine}
-use Rattle.mp_machine.specs.View.{View, part_in, with_part}
+use Rattle.mp_machine.specs.Machine.{Machine, run, AllAllowed}
+use Rattle.mp_machine.specs.View.{View, part_in, with_part, Agrees}
 use Rattle.mp_machine.specs.declared.example.Worker.{Worker}
 use Rattle.mp_machine.specs.declared.example.Event.{Event}
 use Rattle.mp_machine.specs.declared.example.Event.TheVariants.{Draw, Total, Lock, Unlock}
@@ -167,3 +167,8 @@ CanUnlock me n = (n < 2) × ((p : Worker) × (part_in me.0 n ≡ Some p) × (p.h
 abbrev pub Unlocked : ℕ → Me ℕ (View Worker) → Me ℕ (View Worker) → Type 0
 Unlocked n before after =
     (p : Worker) × (part_in before.0 n ≡ Some p) × (after ≡ (with_part before.0 n (record { draws = p.draws; heard = p.heard; holds = false }), []))
+
+-- in a world that can be reached, and which agrees with the view, the lock was not free
+abbrev pub WasHeld : ℕ → View Worker → Type 0
+WasHeld opening v =
+    (es : List Event) × AllAllowed (office opening) es × Agrees (run (office opening) es).worker v × ¬ ((run (office opening) es).locked ≡ 0)

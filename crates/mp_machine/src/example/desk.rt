@@ -2,7 +2,7 @@
 ghost use Rattle.std.specs.Prelude.{◌≡◌, ◌+◌, [], ◌∷◌, Some, IfOk, IfSome, IfNone, ℕ};
 ghost use Rattle.mp_machine.specs.Rule.{Backed};
 ghost use Rattle.mp_machine.specs.View.{without, only, joined, part_in};
-ghost use Rattle.mp_machine.specs.Example.{newcomer, office, is_second, CanDraw, Drew, HasWorker, Has, CanUnlock, Unlocked};
+ghost use Rattle.mp_machine.specs.Example.{newcomer, office, is_second, CanDraw, Drew, HasWorker, Has, CanUnlock, Unlocked, WasHeld};
 
 use super::{Office, Worker};
 use crate::ruled_table::{RuledTable, Seat};
@@ -50,13 +50,13 @@ impl Desk {
         self.office.load::<Brand, ()>(seat, 0, &())
     }
 
-    /// Takes the value, if the lock is free.
+    /// Takes the value. `None` if the lock is held, and nothing changed.
     pub fn lock(&self, seat: &mut Seat<Office>, node: u64) -> Option<u64>
         requires table { seat.old.table_id ≡ self.now.office.table.shared.table_id }
         requires worker { HasWorker seat.old.me node }
         ensures table { seat.new.table_id ≡ seat.old.table_id }
         ensures taken { IfSome result (λ _. Has node seat.old.me 0 seat.new.me) }
-        ensures missed { IfNone result (seat.new.me ≡ seat.old.me) }
+        ensures missed { IfNone result ((seat.new.me ≡ seat.old.me) × WasHeld self.now.office.table.shared.key seat.old.me.0) }
     {
         let found = self
             .office
