@@ -39,15 +39,15 @@ impl System for Office {
 
     type Event = Event;
 
-    ghost use Rattle.mp_machine.specs.Example.{Place as Where, World as All, office};
+    ghost use Rattle.mp_machine.specs.Example.{Place as OfficePlace, World as OfficeWorld, office};
     ghost use Rattle.mp_machine.specs.ExampleLaws.{laws as office_laws};
     ghost use Rattle.std.specs.Prelude.{ℕ};
 
-    ghost Place = { Where };
+    ghost Place = { OfficePlace };
 
     ghost Note = { ℕ };
 
-    ghost World = { All };
+    ghost World = { OfficeWorld };
 
     ghost machine = { office };
 
