@@ -1,9 +1,7 @@
 -- The lines of a transcript, put together again, are the transcript.
-use Rattle.std.proofs.Common.{◌≡◌, ◌∙◌, ℕ, ◌+◌, ◌^◌, ◌<◌, ◌≤◌, ◌&&◌, Bool, true, List, [], ◌∷◌, ◌++◌, length, map, Option, Some, None, refl, sym, ap, append_assoc, append-nil, arith}
-use Rattle.std.proofs.lemmas.Bool.{and_from}
+use Rattle.std.proofs.Common.{◌≡◌, ℕ, ◌^◌, ◌<◌, List, [], ◌∷◌, ◌++◌, map, Option, Some, None, refl, append_assoc}
 use Rattle.std.proofs.lemmas.List.{map-append}
-use Rattle.std.proofs.lemmas.List.Folds.{list_all-append}
-use Rattle.std.specs.List.{AllByRecursion, flat_map, list_all}
+use Rattle.std.specs.List.{AllByRecursion, flat_map}
 use Rattle.mp_model.specs.declared.replies.Answer.{Answer}
 use Rattle.mp_model.specs.declared.transcripts.Mode.{Mode}
 use Rattle.mp_model.specs.declared.transcripts.Mode.TheVariants.{Step, Run}
@@ -13,13 +11,11 @@ use Rattle.mp_model.specs.declared.transcripts.Transcript.{Transcript}
 use Rattle.mp_report.specs.declared.lines.Line.{Line}
 use Rattle.mp_report.specs.declared.lines.Line.TheVariants.{Head, Primary, Answered, WentDown, End}
 use Rattle.mp_report.specs.Answers.{answer_words}
-use Rattle.mp_report.specs.Bare.{listed, bare_answer, bare_part, bare_transcript}
-use Rattle.mp_report.specs.Transcripts.{head_words, primary_words, part_lines, down_words, end_words, transcript_lines}
-use Rattle.mp_report.specs.Readable.{IsPrimary, IsDown, IsAnswer, InOrder, IsReadable}
+use Rattle.mp_report.specs.Bare.{listed, bare_answer, bare_part}
+use Rattle.mp_report.specs.Transcripts.{part_lines, down_words, end_words}
+use Rattle.mp_report.specs.Readable.{IsPrimary, IsDown, IsAnswer}
 use Rattle.mp_report.specs.ReadingLines.{read_line}
-use Rattle.mp_report.proofs.LinesCut.{is_line}
-use Rattle.mp_report.proofs.WordsAreWords.{answer_is_line}
-use Rattle.mp_report.proofs.LinesRead.{head_read, primary_line_read, answer_line_read, down_read, end_read, head_is_line, primary_is_line, down_is_line, end_is_line}
+use Rattle.mp_report.proofs.LinesRead.{primary_line_read, answer_line_read, down_read, end_read}
 
 -- what the lines from some place on say; answers stand here until their primary's line is met above them
 pub record Gathered : Type 0 where

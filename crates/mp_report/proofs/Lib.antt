@@ -7,3 +7,6 @@ pub mod WordsAreWords
 pub mod LinesRead
 pub mod Gathered
 pub mod TextsDiffer
+pub mod WordsSpelled
+pub mod RepliesSpelled
+pub mod LinesSpelled

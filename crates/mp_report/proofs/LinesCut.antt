@@ -1,10 +1,9 @@
 -- A text of lines of words is cut into these lines and words again.
-use Rattle.std.proofs.Common.{◌≡◌, ◌∙◌, ℕ, ◌≤◌, ◌<◌, ◌==◌, inl, inr, nat_le, Bool, true, false, List, [], ◌∷◌, ◌++◌, map, refl, sym, ap, append_assoc, append-nil, lit<, arith}
-use Rattle.std.proofs.lemmas.Bool.{and_parts, leb-true, eq-eqb}
+use Rattle.std.proofs.Common.{◌≡◌, ◌∙◌, ℕ, ◌<◌, ◌==◌, inl, inr, nat_le, Bool, true, false, List, [], ◌∷◌, ◌++◌, map, refl, ap, append_assoc, append-nil, lit<, arith}
+use Rattle.std.proofs.lemmas.Bool.{and_parts, leb-true}
 use Rattle.std.proofs.lemmas.Bool.Decides.{eqb_tells}
-use Rattle.std.proofs.lemmas.List.Folds.{list_all-append}
-use Rattle.std.specs.List.{AllByRecursion, flat_map, list_all, slice_split, onto_first}
-use Rattle.mp_report.specs.Lines.{spaced, line, text_of}
+use Rattle.std.specs.List.{AllByRecursion, list_all, slice_split}
+use Rattle.mp_report.specs.Lines.{spaced, text_of}
 use Rattle.mp_report.specs.ReadingLines.{lines_of}
 
 -- each byte is above the space, as a word's bytes are

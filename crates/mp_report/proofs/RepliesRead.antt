@@ -1,19 +1,18 @@
 -- A printed answer reads back as itself, whatever free places its lists have.
-use Rattle.std.proofs.Common.{◌≡◌, ℕ, ◌+◌, ◌-◌, ◌^◌, ◌<◌, ◌≤◌, ◌&&◌, Bool, true, false, List, [], ◌∷◌, ◌++◌, length, map, Option, Some, None, codes, decimal, refl, lit<, arith}
+use Rattle.std.proofs.Common.{◌≡◌, ℕ, ◌-◌, ◌^◌, ◌<◌, ◌&&◌, Bool, true, false, List, [], ◌∷◌, ◌++◌, length, map, Some, None, codes, decimal, refl, lit<, arith}
 use Rattle.std.proofs.lemmas.Bool.{le-leb}
 use Rattle.std.specs.List.{AllByRecursion}
 use Rattle.std.specs.Str.{bytes_eq}
 use Rattle.mp_model.specs.declared.ids.TrxName.{TrxName}
 use Rattle.mp_model.specs.declared.key_value.KeyValue.{KeyValue}
-use Rattle.mp_model.specs.declared.replies.WriteVerb.{WriteVerb}
 use Rattle.mp_model.specs.declared.replies.WriteVerb.TheVariants.{Put, Del, Copy}
 use Rattle.mp_model.specs.declared.replies.Reply.{Reply}
 use Rattle.mp_model.specs.declared.replies.Reply.TheVariants.{Began, Got, Scanned, Wrote, Committed, CommittedNone, Unknown, RolledBack, Conflict, Held, Full, Skipped, Stopped}
 use Rattle.mp_model.specs.declared.replies.Answer.{Answer}
-use Rattle.mp_report.specs.Answers.{statement_word, name_word, row_word, reply_words, wait_words, answer_words}
+use Rattle.mp_report.specs.Answers.{name_word, row_word, reply_words, wait_words, answer_words}
 use Rattle.mp_report.specs.Bare.{bare_reply, bare_answer}
-use Rattle.mp_report.specs.Readable.{IsStamp, IsPrimary, IsStatement, IsName, IsRow, IsReply, IsAnswer}
-use Rattle.mp_report.specs.Reading.{read_stamp, read_primary, read_statement, read_rows, read_names, read_reply, read_waits, read_answer}
+use Rattle.mp_report.specs.Readable.{IsStamp, IsPrimary, IsName, IsRow, IsReply, IsAnswer}
+use Rattle.mp_report.specs.Reading.{read_stamp, read_primary, read_rows, read_names, read_reply, read_waits, read_answer}
 use Rattle.mp_report.proofs.WordsRead.{number_read, number_differs, statement_read, row_read}
 
 pub stamp_read : (stamp : ℕ) → IsStamp stamp → read_stamp (decimal stamp) ≡ Some stamp
@@ -34,7 +33,7 @@ waits_read : (names : List TrxName) → AllByRecursion IsName names → read_wai
 waits_read [] are = refl
 waits_read (name ∷ names) are = rw (le-leb 1 (length (map name_word (name ∷ names))) (omega arith), names_read (name ∷ names) are) refl
 
-and-false : (b : Bool) → (b && false) ≡ false
+pub and-false : (b : Bool) → (b && false) ≡ false
 and-false true = refl
 and-false false = refl
 

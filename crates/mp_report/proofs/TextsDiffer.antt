@@ -10,16 +10,15 @@ use Rattle.mp_model.specs.declared.transcripts.Mode.TheVariants.{Step, Run}
 use Rattle.mp_model.specs.declared.transcripts.Part.{Part}
 use Rattle.mp_model.specs.declared.transcripts.Down.{Down}
 use Rattle.mp_model.specs.declared.transcripts.Transcript.{Transcript}
-use Rattle.mp_report.specs.Lines.{text_of}
 use Rattle.mp_report.specs.Answers.{answer_words}
-use Rattle.mp_report.specs.Bare.{listed, bare_answer, bare_part, bare_transcript}
-use Rattle.mp_report.specs.Transcripts.{head_words, primary_words, primary_lines, part_lines, down_words, end_words, transcript_lines, transcript_text}
+use Rattle.mp_report.specs.Bare.{listed, bare_part, bare_transcript}
+use Rattle.mp_report.specs.Transcripts.{head_words, part_lines, down_words, end_words, transcript_lines, transcript_text}
 use Rattle.mp_report.specs.Readable.{IsStamp, IsPrimary, IsDown, IsAnswer, InOrder, HasParts, IsReadable}
 use Rattle.mp_report.specs.ReadingLines.{lines_of, read_line}
-use Rattle.mp_report.proofs.LinesCut.{is_word, is_line, lines_again}
+use Rattle.mp_report.proofs.LinesCut.{is_line, lines_again}
 use Rattle.mp_report.proofs.WordsAreWords.{answer_is_line}
 use Rattle.mp_report.proofs.LinesRead.{head_read, head_is_line, primary_is_line, down_is_line, end_is_line}
-use Rattle.mp_report.proofs.Gathered.{gathered, transcript_of, downs_gathered, answers_gathered, parts_gathered}
+use Rattle.mp_report.proofs.Gathered.{transcript_of, downs_gathered, answers_gathered, parts_gathered}
 
 -- parts of primaries from one on that end at 8 are of primaries
 primaries_in_order : (next : ℕ) (parts : List Part) → 1 ≤ next → next + length parts ≤ 9 → InOrder next parts → AllByRecursion (λ part. IsPrimary part.primary) parts

@@ -1,5 +1,5 @@
 -- Each line of a transcript is words, which have no byte at or below the space.
-use Rattle.std.proofs.Common.{◌≡◌, ◌∙◌, ℕ, ◌^◌, ◌≤◌, ◌<◌, ◌&&◌, nat_le, Bool, true, false, List, [], ◌∷◌, ◌++◌, length, map, Some, None, codes, decimal, refl, lit<, arith}
+use Rattle.std.proofs.Common.{◌≡◌, ◌∙◌, ℕ, ◌^◌, ◌<◌, ◌&&◌, nat_le, true, List, [], ◌∷◌, ◌++◌, length, map, Some, None, codes, decimal, refl, arith}
 use Rattle.std.proofs.lemmas.Bool.{and_parts, and_from, le-leb}
 use Rattle.std.proofs.lemmas.List.Folds.{list_all-append}
 use Rattle.std.proofs.lemmas.Fmt.{decimal_is_IsNumeral}
@@ -9,13 +9,12 @@ use Rattle.std.specs.Str.Parse.{AllDigits}
 use Rattle.mp_model.specs.Values.{is_value, is_value_byte}
 use Rattle.mp_model.specs.declared.ids.TrxName.{TrxName}
 use Rattle.mp_model.specs.declared.key_value.KeyValue.{KeyValue}
-use Rattle.mp_model.specs.declared.replies.WriteVerb.{WriteVerb}
 use Rattle.mp_model.specs.declared.replies.WriteVerb.TheVariants.{Put, Del, Copy}
 use Rattle.mp_model.specs.declared.replies.Reply.{Reply}
 use Rattle.mp_model.specs.declared.replies.Reply.TheVariants.{Began, Got, Scanned, Wrote, Committed, CommittedNone, Unknown, RolledBack, Conflict, Held, Full, Skipped, Stopped}
 use Rattle.mp_model.specs.declared.replies.Answer.{Answer}
-use Rattle.mp_report.specs.Answers.{statement_word, name_word, row_word, verb_word, reply_words, wait_words, answer_words}
-use Rattle.mp_report.specs.Readable.{IsStamp, IsPrimary, IsStatement, IsName, IsRow, IsReply, IsAnswer}
+use Rattle.mp_report.specs.Answers.{statement_word, name_word, row_word, reply_words, wait_words, answer_words}
+use Rattle.mp_report.specs.Readable.{IsStamp, IsStatement, IsName, IsRow, IsReply, IsAnswer}
 use Rattle.mp_report.proofs.LinesCut.{is_word, is_line}
 
 digits_word : (ds : List ℕ) → AllDigits 10 ds → is_word ds ≡ true

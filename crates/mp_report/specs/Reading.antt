@@ -1,5 +1,5 @@
 -- How printed words are read.
-use Rattle.std.specs.Prelude.{◌≡◌, ℕ, zero, suc, ◌-◌, ◌^◌, ◌==◌, ◌&&◌, nat_le, Bool, true, false, if◌then◌else◌, List, [], ◌∷◌, length, drop, Option, Some, None, option_and_then, codes, decimal}
+use Rattle.std.specs.Prelude.{ℕ, zero, suc, ◌-◌, ◌^◌, ◌==◌, ◌&&◌, nat_le, Bool, false, if◌then◌else◌, List, [], ◌∷◌, length, drop, Option, Some, None, option_and_then, codes, decimal}
 use Rattle.std.specs.Str.{bytes_eq}
 use Rattle.std.specs.Str.Parse.{digits_value}
 use Rattle.mp_model.specs.Values.{is_value}
@@ -10,9 +10,6 @@ use Rattle.mp_model.specs.declared.replies.WriteVerb.TheVariants.{Put, Del, Copy
 use Rattle.mp_model.specs.declared.replies.Reply.{Reply}
 use Rattle.mp_model.specs.declared.replies.Reply.TheVariants.{Began, Got, Scanned, Wrote, Committed, CommittedNone, Unknown, RolledBack, Conflict, Held, Full, Skipped, Stopped}
 use Rattle.mp_model.specs.declared.replies.Answer.{Answer}
-use Rattle.mp_model.specs.declared.transcripts.Mode.{Mode}
-use Rattle.mp_model.specs.declared.transcripts.Mode.TheVariants.{Step, Run}
-use Rattle.mp_model.specs.declared.transcripts.Down.{Down}
 use Rattle.mp_report.specs.Bare.{listed}
 
 infixl 10 ◌>>=◌

@@ -1,11 +1,14 @@
 -- How printed lines are read.
-use Rattle.std.specs.Prelude.{ℕ, ◌-◌, ◌^◌, ◌==◌, if◌then◌else◌, List, [], ◌∷◌, map, Option, Some, None, codes}
+use Rattle.std.specs.Prelude.{ℕ, ◌-◌, ◌^◌, ◌<◌, ◌==◌, if◌then◌else◌, List, [], ◌∷◌, map, Option, Some, None, codes}
 use Rattle.std.specs.List.{slice_split}
 use Rattle.std.specs.Str.{bytes_eq}
 use Rattle.mp_model.specs.declared.transcripts.Mode.{Mode}
 use Rattle.mp_model.specs.declared.transcripts.Mode.TheVariants.{Step, Run}
 use Rattle.mp_report.specs.declared.lines.Line.{Line}
 use Rattle.mp_report.specs.declared.lines.Line.TheVariants.{Head, Primary, Answered, WentDown, End}
+use Rattle.mp_report.specs.Answers.{answer_words}
+use Rattle.mp_report.specs.Transcripts.{head_words, primary_words, down_words, end_words}
+use Rattle.mp_report.specs.Readable.{IsStamp, IsPrimary, IsAnswer, IsDown}
 use Rattle.mp_report.specs.Reading.{◌>>=◌, read_number, read_stamp, read_primary, read_answer}
 
 -- the lines of a text, each as its words; the last one is what stands behind the last byte 10
@@ -46,3 +49,19 @@ read_line (word ∷ words) =
     else (if bytes_eq word (codes "down") then read_down words
     else (if bytes_eq word (codes "end") then read_end words
     else (read_answer (word ∷ words) >>= λ answer. Some (Answered answer)))))
+
+-- the words of a line
+abbrev pub line_words : Line → List (List ℕ)
+line_words (Head mode base) = head_words mode base
+line_words (Primary primary) = primary_words primary
+line_words (Answered answer) = answer_words answer
+line_words (WentDown down) = down_words down
+line_words (End commits) = end_words commits
+
+-- the line says what a line of a readable transcript may say
+abbrev pub IsLine : Line → Type 0
+IsLine (Head mode base) = IsStamp base
+IsLine (Primary primary) = IsPrimary primary
+IsLine (Answered answer) = IsAnswer answer
+IsLine (WentDown down) = IsDown down
+IsLine (End commits) = commits < 2 ^ 64
