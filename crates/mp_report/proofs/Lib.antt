@@ -1,2 +1,12 @@
 pub mod Joined
 pub mod Added
+pub mod WordsRead
+pub mod RepliesRead
+pub mod LinesCut
+pub mod WordsAreWords
+pub mod LinesRead
+pub mod Gathered
+pub mod TextsDiffer
+pub mod WordsSpelled
+pub mod RepliesSpelled
+pub mod LinesSpelled

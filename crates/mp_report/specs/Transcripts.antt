@@ -17,10 +17,14 @@ mode_word Run = codes "run"
 abbrev pub head_words : Mode → ℕ → List (List ℕ)
 head_words mode base = codes "transcript" ∷ mode_word mode ∷ codes "base" ∷ decimal base ∷ []
 
+-- the line of a primary's name
+abbrev pub primary_words : ℕ → List (List ℕ)
+primary_words primary = codes "primary" ∷ decimal primary ∷ []
+
 -- the line above a primary's answers, which are under its name in mode Run alone
 abbrev pub primary_lines : Mode → ℕ → List (List (List ℕ))
 primary_lines Step primary = []
-primary_lines Run primary = (codes "primary" ∷ decimal primary ∷ []) ∷ []
+primary_lines Run primary = primary_words primary ∷ []
 
 -- a part: its answers in their order
 abbrev pub part_lines : Mode → Part → List (List (List ℕ))

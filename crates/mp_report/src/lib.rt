@@ -3,9 +3,12 @@
 #![tactic(auto)]
 
 mod answers;
+mod laws;
+mod lines;
 #[cfg(test)]
 mod tests;
 mod transcripts;
 mod words;
 
+pub use laws::law_texts_differ;
 pub use transcripts::print_transcript;
