@@ -1,8 +1,12 @@
 pub mod Numbers
 pub mod Splitting
-pub mod PlainWords
+pub mod WordBytes
 pub mod StmtWords
 pub mod Tallies
 pub mod EntryLaws
 pub mod Below
 pub mod ScriptLaws
+pub mod Canonical
+pub mod Pigeonhole
+pub mod Printed
+pub mod AloneLaws

@@ -42,6 +42,7 @@ not_declared (e ∷ entries) session h l =
   where
     differs : (a b : ℕ) → nat_le a 64 ≡ true → 64 < b → (b == a) ≡ false
     differs a b h l = grind (arith, nat_tests)
+
     neither : {p q : Bool} → p ≡ false → q ≡ false → (p || q) ≡ false
     neither e f = cc
 
@@ -50,8 +51,10 @@ declared-within entries session h d = by_test (nat_le session 64) refl
   where
     above : nat_le session 64 ≡ false → 64 < session
     above e = grind (arith, nat_tests)
+
     within : nat_le session 64 ≡ true → session ≤ 64
     within e = grind (arith, nat_tests)
+
     by_test : (b : Bool) → nat_le session 64 ≡ b → session ≤ 64
     by_test true e = within e
     by_test false e = let n : is_declared (sessions_of entries) session ≡ false = not_declared entries session h (above e) in cc
@@ -87,6 +90,7 @@ tallies-push tallies lines line now whole h within index is session small = by_t
   where
     differs : (a b : ℕ) → (a == b) ≡ false → b ≢ a
     differs a b e = grind (arith, nat_tests)
+
     by_test : (b : Bool) → (line.session == session) ≡ b → slice_index_or (slice_set tallies line.session (tally line.index now)) session no_tally ≡ tally_of (lines ++ line ∷ []) session
     by_test true e =
         let same : line.session ≡ session = eqb-true _ _ e in
@@ -120,6 +124,7 @@ all-none n session = by_test (nat_lt session n) refl
   where
     above : nat_lt session n ≡ false → n ≤ session
     above e = grind (arith, nat_tests)
+
     by_test : (b : Bool) → nat_lt session n ≡ b → slice_index_or (replicate n no_tally) session no_tally ≡ no_tally
     by_test true e = get_or-replicate n session no_tally no_tally (ltb-true _ _ e)
     by_test false e = get_or_past (replicate n no_tally) session no_tally (omega (arith, above e, length-replicate n no_tally))

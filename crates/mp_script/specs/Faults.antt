@@ -73,8 +73,8 @@ abbrev pub next_line : Said → ℕ → Result Stmt ℕ → Result Entry ℕ
 next_line said session (Err fault) = Err fault
 next_line said session (Ok stmt) =
     if may_stand (is_open said.lines session) stmt then
-      (if nat_lt (length said.lines) 10000 then Ok (Statement (record { session = session; index = statements said.lines session + 1; stmt = stmt }))
-       else Err too_many)
+    (if nat_lt (length said.lines) 10000 then Ok (Statement (record { session = session; index = statements said.lines session + 1; stmt = stmt }))
+    else Err too_many)
     else Err (misplaced (is_open said.lines session))
 
 -- a statement's session must be declared above, before its other words are looked at

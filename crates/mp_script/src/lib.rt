@@ -4,9 +4,13 @@
 
 mod drafts;
 mod entries;
+mod printing;
 mod reading;
 mod statements;
+#[cfg(test)]
+mod tests;
 mod words;
 
+pub use printing::print;
 pub use reading::{ScriptRefusal, parse};
 pub use statements::{Line, Lines, Script, SessionOn, Sessions, Stmt};

@@ -18,4 +18,5 @@ returns-clause-tallied c =
       within = ap (list_all (λ x. nat_le x.0 64)) e ∙ within-push c.args.self.now.sessions.entries c.args.session.session c.args.session.primary c.requires.tallied.within c.requires.fits.session_high;
       whole = c.requires.tallied.whole;
       tallies = c.requires.tallied.tallies;
-      room = c.requires.tallied.room }
+      room = c.requires.tallied.room;
+    }
