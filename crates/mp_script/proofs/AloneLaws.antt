@@ -1,5 +1,5 @@
 -- In a script with one session each statement is that session's, and they are numbered and run one after another.
-use Rattle.std.proofs.Common.{rules, arith, ◌≡◌, ◌==◌, ◌+◌, ◌≤◌, ◌||◌, ◌++◌, ℕ, List, [], ◌∷◌, length, Bool, true, false, cond, refl, sym, ap, subst, ◌∙◌, if◌then◌else◌}
+use Rattle.std.proofs.Common.{arith, ◌≡◌, ◌==◌, ◌+◌, ◌||◌, ◌++◌, ℕ, List, [], ◌∷◌, length, Bool, true, false, cond, refl, sym, ap, subst, ◌∙◌, if◌then◌else◌}
 use Rattle.std.proofs.lemmas.Bool.{eqb-true}
 use Rattle.std.proofs.lemmas.Bool.Decides.{nat_tests}
 use Rattle.std.proofs.lemmas.List.{length-append}
@@ -43,7 +43,8 @@ alone-below n d above (line ∷ lines) h c =
     record {
       session_of = (same, h.0.within, rest.session_of);
       numbered = (h.0.number ∙ ap (λ s. statements above s + 1) same ∙ ap (λ k. k + 1) c, subst (λ k. Numbered (k + 1) lines) grown rest.numbered);
-      runs = (subst (λ s. MayStand (is_open above s) line.stmt) same h.0.stands, subst (λ o. Runs o lines) opened rest.runs) }
+      runs = (subst (λ s. MayStand (is_open above s) line.stmt) same h.0.stands, subst (λ o. Runs o lines) opened rest.runs);
+    }
 
 pub spelled-alone : (script : Script) (d : SessionOn) → IsSpelled script → script.sessions.items ≡ d ∷ [] → IsAlone d.session script.lines.items
 spelled-alone script d spelled one =

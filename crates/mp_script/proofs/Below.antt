@@ -1,8 +1,7 @@
 -- The kept lines from a line on: it is skipped, or read before the rest.
-use Rattle.std.proofs.Common.{rules, arith, ◌≡◌, ◌+◌, ◌<◌, ℕ, List, [], ◌∷◌, map, drop, length, Bool, true, false, refl, sym, ap, subst, ◌∙◌, Bor, Result, Ok, Err, if◌then◌else◌, get_or, add-one}
+use Rattle.std.proofs.Common.{◌≡◌, ◌+◌, ◌<◌, ℕ, List, ◌∷◌, map, drop, length, Bool, true, false, refl, sym, ap, subst, Bor, Result, Ok, Err, if◌then◌else◌, get_or, add-one}
 use Rattle.std.specs.Result.{IsErrAnd}
 use Rattle.std.proofs.Math.Seq.{drop-cons}
-use Rattle.mp_script.specs.declared.drafts.Draft.{Draft}
 use Rattle.mp_script.specs.declared.entries.Entry.{Entry}
 use Rattle.mp_script.specs.declared.reading.ScriptRefusal.{ScriptRefusal}
 use Rattle.mp_script.specs.declared.reading.ScriptRefusal.TheVariants.{Fault, Memory}

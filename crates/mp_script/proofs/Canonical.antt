@@ -1,12 +1,11 @@
 -- What a script's lines say in any order, they say with the sessions first.
-use Rattle.std.proofs.Common.{rules, arith, ◌≡◌, ◌==◌, ◌+◌, ◌<◌, ◌≤◌, ◌||◌, ◌++◌, ℕ, List, [], ◌∷◌, length, map, Bool, true, false, refl, sym, ap, subst, ◌∙◌, append_assoc, append-nil}
-use Rattle.std.specs.List.{list_any}
+use Rattle.std.proofs.Common.{◌≡◌, ◌==◌, ◌||◌, ◌++◌, ℕ, List, [], ◌∷◌, map, Bool, true, false, refl, sym, ap, subst, ◌∙◌, append_assoc, append-nil}
 use Rattle.mp_script.specs.declared.statements.Line.{Line}
 use Rattle.mp_script.specs.declared.statements.SessionOn.{SessionOn}
 use Rattle.mp_script.specs.declared.entries.Entry.{Entry}
 use Rattle.mp_script.specs.declared.entries.Entry.TheVariants.{Session, Statement}
-use Rattle.mp_script.specs.Entries.{Said, start, with_entry, said_after, is_declared, statements, is_open}
-use Rattle.mp_script.specs.Spelling.{MayDeclare, MaySay, Fits, AllFit}
+use Rattle.mp_script.specs.Entries.{Said, said_after, is_declared}
+use Rattle.mp_script.specs.Spelling.{MayDeclare, MaySay, AllFit}
 
 abbrev pub said : ℕ → List SessionOn → List Line → Said
 said primaries sessions lines = record { primaries = primaries; sessions = sessions; lines = lines }

@@ -1,5 +1,5 @@
 -- A line says an entry exactly where it is that entry's line, and the entry fits what stands above.
-use Rattle.std.proofs.Common.{rules, arith, ◌≡◌, ◌==◌, ◌+◌, ◌<◌, ◌≤◌, ◌^◌, ◌&&◌, ◌||◌, ◌++◌, ◌⊎◌, inl, inr, ℕ, nat_lt, nat_le, not, List, [], ◌∷◌, length, Bool, true, false, refl, sym, ap, subst, ◌∙◌, Option, Some, None, Result, Ok, Err, codes, if◌then◌else◌}
+use Rattle.std.proofs.Common.{arith, ◌≡◌, ◌==◌, ◌+◌, ◌<◌, ◌≤◌, ◌^◌, ◌&&◌, ◌||◌, ◌++◌, ◌⊎◌, inl, inr, ℕ, nat_lt, nat_le, List, [], ◌∷◌, length, Bool, true, false, refl, sym, ap, subst, ◌∙◌, Option, Some, None, Result, Ok, Err, codes, if◌then◌else◌}
 use Rattle.std.specs.Str.{bytes_eq}
 use Rattle.std.specs.List.{list_all}
 use Rattle.std.specs.Char.{is_ascii_digit}
@@ -15,9 +15,9 @@ use Rattle.mp_script.specs.declared.statements.SessionOn.{SessionOn}
 use Rattle.mp_script.specs.declared.entries.Entry.{Entry}
 use Rattle.mp_script.specs.declared.entries.Entry.TheVariants.{Session, Statement}
 use Rattle.mp_script.specs.Text.{name_text, header_words, session_words, stmt_words, line_words}
-use Rattle.mp_script.specs.Words.{name_digits, number_of, stmt_of, IsStmt, bad_header, unknown_word, bad_number, unknown_session, too_many}
+use Rattle.mp_script.specs.Words.{name_digits, number_of, stmt_of, IsStmt}
 use Rattle.mp_script.specs.Entries.{Said, start, with_entry, entry_words, is_declared, statements, is_open}
-use Rattle.mp_script.specs.Faults.{primaries_of, header_of, on_primary, new_session, declared_name, session_entry, may_stand, misplaced, next_line, in_session, stmt_entry, entry_of}
+use Rattle.mp_script.specs.Faults.{primaries_of, header_of, on_primary, new_session, declared_name, session_entry, may_stand, next_line, in_session, stmt_entry, entry_of}
 use Rattle.mp_script.specs.Spelling.{MayStand, MayDeclare, MaySay, Fits}
 use Rattle.mp_script.proofs.Numbers.{numerals, number_of-decimal, number_of-Some}
 use Rattle.mp_script.proofs.Splitting.{and-parts, both}

@@ -1,11 +1,9 @@
 -- The text of a script that some bytes spell spells it again.
-use Rattle.std.proofs.Common.{rules, arith, ◌≡◌, ◌==◌, ◌+◌, ◌*◌, ◌<◌, ◌≤◌, ◌^◌, ◌++◌, ℕ, List, [], ◌∷◌, length, map, Bool, true, false, not, nat_le, suc, ◌&&◌, codes, refl, sym, ap, subst, ◌∙◌, append_assoc, append-nil, if◌then◌else◌}
+use Rattle.std.proofs.Common.{arith, ◌≡◌, ◌==◌, ◌+◌, ◌*◌, ◌<◌, ◌≤◌, ◌^◌, ◌++◌, ℕ, List, [], ◌∷◌, length, map, Bool, true, false, not, nat_le, suc, ◌&&◌, codes, refl, sym, ap, subst, ◌∙◌, append_assoc, if◌then◌else◌}
 use Rattle.std.specs.Fmt.{decimal}
-use Rattle.std.specs.List.{list_all, slice_split, join_with_byte, flat_map}
+use Rattle.std.specs.List.{list_all, slice_split}
 use Rattle.std.proofs.lemmas.Fmt.{length-decimal-le}
-use Rattle.std.proofs.lemmas.List.{length-append, length-map, map-append}
-use Rattle.std.proofs.lemmas.List.Folds.{list_all-append}
-use Rattle.std.proofs.lemmas.Grind.{flat_map-append}
+use Rattle.std.proofs.lemmas.List.{length-append}
 use Rattle.std.proofs.lemmas.Bool.Decides.{nat_tests}
 use Rattle.mp_model.specs.Values.{is_value}
 use Rattle.mp_script.specs.declared.statements.Stmt.{Stmt}
@@ -15,11 +13,11 @@ use Rattle.mp_script.specs.declared.statements.SessionOn.{SessionOn}
 use Rattle.mp_script.specs.declared.statements.Script.{Script}
 use Rattle.mp_script.specs.declared.entries.Entry.{Entry}
 use Rattle.mp_script.specs.declared.entries.Entry.TheVariants.{Session, Statement}
-use Rattle.mp_script.specs.Text.{name_text, header_words, session_words, stmt_words, line_words, words_text, line_text, lines_text, script_lines, script_text}
-use Rattle.mp_script.specs.Words.{IsStmt, Kept, is_skipped, words_of, kept_from, kept_lines}
-use Rattle.mp_script.specs.Entries.{Said, start, with_entry, said_after, entry_words, is_declared}
-use Rattle.mp_script.specs.Spelling.{AllFit, Fits, said_of, SpellsBy, Spells, IsSpelled}
-use Rattle.mp_script.proofs.Splitting.{lacks, and-parts, both, split_one, split_more, list_all-implies}
+use Rattle.mp_script.specs.Text.{name_text, header_words, session_words, stmt_words, line_words, words_text, line_text, lines_text, script_text}
+use Rattle.mp_script.specs.Words.{IsStmt, Kept, is_skipped, kept_from, kept_lines}
+use Rattle.mp_script.specs.Entries.{Said, start, with_entry, entry_words}
+use Rattle.mp_script.specs.Spelling.{AllFit, Fits, SpellsBy, Spells, IsSpelled}
+use Rattle.mp_script.proofs.Splitting.{lacks, and-parts, both, split_more}
 use Rattle.mp_script.proofs.WordBytes.{plain, plain-decimal, plain-name, plain-stmt, words-of-text, text-is-one_line}
 use Rattle.mp_script.proofs.EntryLaws.{IsBounded, bounded-start, bounded-next}
 use Rattle.mp_script.proofs.Canonical.{said, sessions_in, lines_in, after-whole, AllDeclared, AllSaid, sessions-fit, lines-fit, canonical, fit-canonical, sessions_in-canonical, lines_in-canonical}

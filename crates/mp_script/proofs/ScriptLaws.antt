@@ -1,9 +1,7 @@
 -- Bytes spell a script exactly where its lines say it without a fault, and they spell one alone.
-use Rattle.std.proofs.Common.{rules, arith, ◌≡◌, ◌≤◌, nat_le, ℕ, List, [], ◌∷◌, length, map, Bool, true, false, refl, sym, ap, subst, ◌∙◌, Option, Some, None, Result, Ok, Err, IfOk, if◌then◌else◌}
+use Rattle.std.proofs.Common.{arith, ◌≡◌, ◌≤◌, nat_le, ℕ, List, [], ◌∷◌, length, map, Bool, true, false, refl, sym, ap, subst, ◌∙◌, None, Result, Ok, Err, IfOk, if◌then◌else◌}
 use Rattle.std.specs.Result.{result_err}
 use Rattle.std.proofs.lemmas.Bool.Decides.{nat_tests}
-use Rattle.mp_script.specs.declared.statements.Line.{Line}
-use Rattle.mp_script.specs.declared.statements.SessionOn.{SessionOn}
 use Rattle.mp_script.specs.declared.statements.Script.{Script}
 use Rattle.mp_script.specs.declared.entries.Entry.{Entry}
 use Rattle.mp_script.specs.declared.entries.Entry.TheVariants.{Session, Statement}

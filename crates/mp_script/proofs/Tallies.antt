@@ -1,20 +1,19 @@
 -- The reader's tallies and sessions follow what is said.
-use Rattle.std.proofs.Common.{rules, arith, ◌≡◌, ◌≢◌, ◌==◌, ◌+◌, ◌<◌, ◌≤◌, ◌&&◌, ◌||◌, ◌++◌, ℕ, nat_eq, nat_le, List, [], ◌∷◌, length, map, Bool, true, false, refl, sym, ap, subst, ◌∙◌, Option, Some, None, is_some, cond, count_by, sum_by, if◌then◌else◌, add_assoc, add_comm, add-zero, zero-add, slice_index_or, slice_set, replicate, nat_lt, slice_get, take}
-use Rattle.std.specs.List.{list_any, list_all}
+use Rattle.std.proofs.Common.{arith, ◌≡◌, ◌≢◌, ◌==◌, ◌+◌, ◌<◌, ◌≤◌, ◌||◌, ◌++◌, ℕ, nat_eq, nat_le, List, [], ◌∷◌, length, Bool, true, false, refl, sym, ap, ◌∙◌, Option, Some, None, is_some, cond, if◌then◌else◌, add-zero, zero-add, slice_index_or, slice_set, replicate, nat_lt, slice_get, take}
+use Rattle.std.specs.List.{list_all}
 use Rattle.std.specs.Map.{lookup}
 use Rattle.std.proofs.lemmas.Bool.{eqb-true, ltb-true}
 use Rattle.std.proofs.lemmas.Bool.Decides.{nat_tests}
-use Rattle.std.proofs.lemmas.List.{map-append, length-append, get_or-set_other, get_or-replicate, get_or_past, length-replicate, take_more, take_all}
+use Rattle.std.proofs.lemmas.List.{map-append, get_or-set_other, get_or-replicate, get_or_past, length-replicate, take_more, take_all}
 use Rattle.std.proofs.lemmas.Option.{slice_get_within, get_or_from_slice_get}
 use Rattle.std.proofs.lemmas.Grind.{get_or-set_at}
 use Rattle.std.proofs.lemmas.List.Sums.{sum_by-append, count_by-le-length}
 use Rattle.std.proofs.lemmas.List.Folds.{list_all-append}
 use Rattle.mp_script.specs.declared.statements.Line.{Line}
 use Rattle.mp_script.specs.declared.statements.SessionOn.{SessionOn}
-use Rattle.mp_script.specs.declared.drafts.Draft.{Draft}
 use Rattle.mp_script.specs.declared.drafts.Tally.{Tally}
 use Rattle.mp_script.specs.Entries.{Said, is_declared, statements, open_after, open_behind, is_open}
-use Rattle.mp_script.specs.Drafts.{sessions_of, no_tally, tally_of, IsTallied}
+use Rattle.mp_script.specs.Drafts.{sessions_of, no_tally, tally_of}
 use Rattle.mp_script.proofs.Splitting.{and-parts, both}
 
 -- a look-up in the map finds the declared sessions

@@ -1,6 +1,5 @@
 -- Each entry is one more session.
-use Rattle.std.proofs.Common.{arith, ◌≡◌, ◌∙◌, ap, sym, subst, Some, Option, ℕ, ◌++◌, ◌∷◌, [], slice_get}
-use Rattle.std.specs.Option.{option_map}
+use Rattle.std.proofs.Common.{arith, ◌≡◌, ◌∙◌, ap, sym, Some, Option, ℕ, ◌++◌, ◌∷◌, [], slice_get}
 use Rattle.mp_script.proofs.Tallies.{sessions_of-take, sessions_of-all}
 use Rattle.mp_script.proofs.drafts.sessions_in.Goals as goal
 

@@ -1,8 +1,7 @@
 -- The next kept line is added, or has the first fault.
-use Rattle.std.proofs.Common.{arith, ◌≡◌, ◌+◌, [], ◌∷◌, ℕ, List, drop, map, sym, ap, ◌∙◌, subst, get_or, Ok, Err, Bor}
-use Rattle.mp_script.specs.declared.drafts.Draft.{Draft}
+use Rattle.std.proofs.Common.{arith, ◌≡◌, ◌+◌, [], ◌∷◌, ℕ, List, drop, sym, ap, ◌∙◌, subst, get_or, Err, Bor}
 use Rattle.mp_script.specs.Words.{Kept, kept_from, words_of}
-use Rattle.mp_script.specs.Entries.{Said, start}
+use Rattle.mp_script.specs.Entries.{start}
 use Rattle.mp_script.specs.Faults.{said_below}
 use Rattle.mp_script.specs.Drafts.{said_in, IsTallied}
 use Rattle.mp_script.specs.Readings.{Gives}

@@ -1,5 +1,5 @@
 -- A new session goes last.
-use Rattle.std.proofs.Common.{◌≡◌, ◌++◌, ◌∷◌, [], ℕ, List, nat_eq, nat_le, ap, ◌∙◌}
+use Rattle.std.proofs.Common.{◌≡◌, ◌++◌, ◌∷◌, [], nat_eq, nat_le, ap, ◌∙◌}
 use Rattle.std.specs.List.{list_all}
 use Rattle.indexmap.proofs.CallerLemmas.{insert_entry-new}
 use Rattle.mp_script.proofs.Tallies.{lookup-None, within-push, sessions_of-push, said}
