@@ -66,13 +66,13 @@ alone_after session said (Statement line ∷ entries) fit all_are so_far = alone
   where
     next : MaySay said line → SoFar session (said.lines ++ line ∷ [])
     next may =
-      let its : line.session ≡ session = the_one said.sessions session line.session (sessions_stay (λ s. s.session ≡ session) said (Statement line ∷ entries) all_are) may.declared in
-      let counted : statements said.lines line.session ≡ length said.lines = rw its (all_counted session 1 said.lines so_far.numbered) in
-      record {
-        numbered = numbered_more session 1 said.lines line so_far.numbered its (omega (arith, may.number, counted));
-        runs = runs_more session 1 false said.lines line so_far.numbered so_far.runs (rw (← its) may.stands);
-        count = omega (arith, may.room, length-append said.lines (line ∷ []));
-      }
+        let its : line.session ≡ session = the_one said.sessions session line.session (sessions_stay (λ s. s.session ≡ session) said (Statement line ∷ entries) all_are) may.declared in
+        let counted : statements said.lines line.session ≡ length said.lines = rw its (all_counted session 1 said.lines so_far.numbered) in
+        record {
+          numbered = numbered_more session 1 said.lines line so_far.numbered its (omega (arith, may.number, counted));
+          runs = runs_more session 1 false said.lines line so_far.numbered so_far.runs (rw (← its) may.stands);
+          count = omega (arith, may.room, length-append said.lines (line ∷ []));
+        }
 
 -- a session that all of one or none are
 only_session : (sessions : List SessionOn) → length sessions ≤ 1 → (session : ℕ) × AllByRecursion (λ s. s.session ≡ session) sessions
@@ -86,7 +86,7 @@ alone bytes script spells plain = go (only_session script.sessions.items plain.s
   where
     go : (session : ℕ) × AllByRecursion (λ s. s.session ≡ session) script.sessions.items → AreAlone script.lines.items
     go (session, all_are) =
-      let all_end : AllByRecursion (λ s. s.session ≡ session) (said_after (start script.primaries) spells.entries).sessions = rw spells.spelled.whole all_are in
-      let so_far = alone_after session (start script.primaries) spells.entries spells.spelled.fit all_end (record { numbered = tt; runs = tt; count = omega arith }) in
-      let lines_are : (said_after (start script.primaries) spells.entries).lines ≡ script.lines.items = ap (λ said. said.lines) spells.spelled.whole in
-      record { session = session; numbered = rw (← lines_are) so_far.numbered; runs = rw (← lines_are) so_far.runs; count = rw (← lines_are) so_far.count }
+        let all_end : AllByRecursion (λ s. s.session ≡ session) (said_after (start script.primaries) spells.entries).sessions = rw spells.spelled.whole all_are in
+        let so_far = alone_after session (start script.primaries) spells.entries spells.spelled.fit all_end (record { numbered = tt; runs = tt; count = omega arith }) in
+        let lines_are : (said_after (start script.primaries) spells.entries).lines ≡ script.lines.items = ap (λ said. said.lines) spells.spelled.whole in
+        record { session = session; numbered = rw (← lines_are) so_far.numbered; runs = rw (← lines_are) so_far.runs; count = rw (← lines_are) so_far.count }

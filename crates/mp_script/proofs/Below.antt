@@ -1,8 +1,7 @@
 -- The kept lines from a line on: it is skipped, or read before the rest.
-use Rattle.std.proofs.Common.{rules, arith, ◌≡◌, ◌+◌, ◌<◌, ℕ, List, [], ◌∷◌, map, drop, length, Bool, true, false, refl, sym, ap, subst, ◌∙◌, Bor, Result, Ok, Err, if◌then◌else◌, get_or, add-one}
+use Rattle.std.proofs.Common.{◌≡◌, ◌+◌, ◌<◌, ℕ, List, ◌∷◌, map, drop, length, Bool, true, false, refl, sym, ap, subst, Bor, Result, Ok, Err, if◌then◌else◌, get_or, add-one}
 use Rattle.std.specs.Result.{IsErrAnd}
 use Rattle.std.proofs.Math.Seq.{drop-cons}
-use Rattle.mp_script.specs.declared.drafts.Draft.{Draft}
 use Rattle.mp_script.specs.declared.entries.Entry.{Entry}
 use Rattle.mp_script.specs.declared.reading.ScriptRefusal.{ScriptRefusal}
 use Rattle.mp_script.specs.declared.reading.ScriptRefusal.TheVariants.{Fault, Memory}
@@ -44,6 +43,7 @@ below-ok said new number words rest h = by_entry (entry_of said words) h
   where
     ok_same : {x y : Said} → ◌≡◌ {A = Result Said FaultAt} (Ok x) (Ok y) → x ≡ y
     ok_same e = cc
+
     by_entry : (r : Result Entry ℕ) → at_line number r (λ e. Ok (with_entry said e)) ≡ Ok new → at_line number r (λ e. said_below (with_entry said e) rest) ≡ said_below new rest
     by_entry (Ok entry) e = ap (λ x. said_below x rest) (ok_same e)
     by_entry (Err fault) e = cc
@@ -68,6 +68,7 @@ by-ok primaries number words rest h = by_header (header_of words) h
   where
     ok_same : {x y : ℕ} → ◌≡◌ {A = Result ℕ FaultAt} (Ok x) (Ok y) → x ≡ y
     ok_same e = cc
+
     by_header : (r : Result ℕ ℕ) → at_line number r (λ n. Ok n) ≡ Ok primaries → at_line number r (λ n. said_below (start n) rest) ≡ said_below (start primaries) rest
     by_header (Ok n) e = ap (λ x. said_below (start x) rest) (ok_same e)
     by_header (Err fault) e = cc

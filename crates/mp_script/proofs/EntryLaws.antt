@@ -1,5 +1,5 @@
 -- A line says an entry exactly where it is that entry's line, and the entry fits what stands above.
-use Rattle.std.proofs.Common.{rules, arith, ◌≡◌, ◌==◌, ◌+◌, ◌<◌, ◌≤◌, ◌^◌, ◌&&◌, ◌||◌, ◌++◌, ◌⊎◌, inl, inr, ℕ, nat_lt, nat_le, not, List, [], ◌∷◌, length, Bool, true, false, refl, sym, ap, subst, ◌∙◌, Option, Some, None, Result, Ok, Err, codes, if◌then◌else◌}
+use Rattle.std.proofs.Common.{arith, ◌≡◌, ◌==◌, ◌+◌, ◌<◌, ◌≤◌, ◌^◌, ◌&&◌, ◌||◌, ◌++◌, ◌⊎◌, inl, inr, ℕ, nat_lt, nat_le, List, [], ◌∷◌, length, Bool, true, false, refl, sym, ap, subst, ◌∙◌, Option, Some, None, Result, Ok, Err, codes, if◌then◌else◌}
 use Rattle.std.specs.Str.{bytes_eq}
 use Rattle.std.specs.List.{list_all}
 use Rattle.std.specs.Char.{is_ascii_digit}
@@ -15,9 +15,9 @@ use Rattle.mp_script.specs.declared.statements.SessionOn.{SessionOn}
 use Rattle.mp_script.specs.declared.entries.Entry.{Entry}
 use Rattle.mp_script.specs.declared.entries.Entry.TheVariants.{Session, Statement}
 use Rattle.mp_script.specs.Text.{name_text, header_words, session_words, stmt_words, line_words}
-use Rattle.mp_script.specs.Words.{name_digits, number_of, stmt_of, IsStmt, bad_header, unknown_word, bad_number, unknown_session, too_many}
+use Rattle.mp_script.specs.Words.{name_digits, number_of, stmt_of, IsStmt}
 use Rattle.mp_script.specs.Entries.{Said, start, with_entry, entry_words, is_declared, statements, is_open}
-use Rattle.mp_script.specs.Faults.{primaries_of, header_of, on_primary, new_session, declared_name, session_entry, may_stand, misplaced, next_line, in_session, stmt_entry, entry_of}
+use Rattle.mp_script.specs.Faults.{primaries_of, header_of, on_primary, new_session, declared_name, session_entry, may_stand, next_line, in_session, stmt_entry, entry_of}
 use Rattle.mp_script.specs.Spelling.{MayStand, MayDeclare, MaySay, Fits}
 use Rattle.mp_script.proofs.Numbers.{numerals, number_of-decimal, number_of-Some}
 use Rattle.mp_script.proofs.Splitting.{and-parts, both}
@@ -92,12 +92,12 @@ on_primary-Ok : (said : Said) (session : ℕ) (word : Option ℕ) (entry : Entry
 on_primary-Ok said session None entry h = cc
 on_primary-Ok said session (Some p) entry h =
     elim (by_bool (p == 0) _ _ _ h) [
-      inl a ↦ absurd (wrong a.1)
-    | inr a ↦ elim (by_bool (nat_lt said.primaries p) _ _ _ a.1) [
-        inl b ↦ absurd (wrong b.1)
-      | inr b ↦ elim (by_bool (is_declared said.sessions session) _ _ _ b.1) [
-          inl d ↦ absurd (wrong d.1)
-        | inr d ↦ record { primary = p; is = refl; low = nonzero p a.0; high = at_most p said.primaries b.0; new = d.0; entry_is = ok_same d.1 }
+      | inl a ↦ absurd (wrong a.1)
+      | inr a ↦ elim (by_bool (nat_lt said.primaries p) _ _ _ a.1) [
+        | inl b ↦ absurd (wrong b.1)
+        | inr b ↦ elim (by_bool (is_declared said.sessions session) _ _ _ b.1) [
+          | inl d ↦ absurd (wrong d.1)
+          | inr d ↦ record { primary = p; is = refl; low = nonzero p a.0; high = at_most p said.primaries b.0; new = d.0; entry_is = ok_same d.1 }
         ]
       ]
     ]
@@ -117,10 +117,10 @@ new_session-Ok : (said : Said) (word primary : Option ℕ) (entry : Entry) → n
 new_session-Ok said None primary entry h = cc
 new_session-Ok said (Some s) primary entry h =
     elim (by_bool (s == 0) _ _ _ h) [
-      inl a ↦ absurd (wrong a.1)
-    | inr a ↦ elim (by_bool (nat_le s 64) _ _ _ a.1) [
-        inl b ↦ record { session = s; is = refl; low = nonzero s a.0; high = le-true s 64 b.0; rest = b.1 }
-      | inr b ↦ absurd (wrong b.1)
+      | inl a ↦ absurd (wrong a.1)
+      | inr a ↦ elim (by_bool (nat_le s 64) _ _ _ a.1) [
+        | inl b ↦ record { session = s; is = refl; low = nonzero s a.0; high = le-true s 64 b.0; rest = b.1 }
+        | inr b ↦ absurd (wrong b.1)
       ]
     ]
   where
@@ -139,7 +139,7 @@ session-says said name primary (Some digits) entry n h =
     let p : (primary ≡ decimal b.primary) × (b.primary < 2 ^ 32) = number_of-Some primary b.primary b.is in
     let name_is : name ≡ name_text a.session = name_digits-Some name digits n ∙ ap (λ d. 115 ∷ d) s.0 in
     subst (Says said (codes "session" ∷ name ∷ codes "on" ∷ primary ∷ [])) b.entry_is
-      (record { session_low = a.low; session_high = a.high; primary_low = b.low; primary_high = b.high; new = b.new }, four_words name_is refl p.0)
+    (record { session_low = a.low; session_high = a.high; primary_low = b.low; primary_high = b.high; new = b.new }, four_words name_is refl p.0)
 
 session_entry-Ok : (said : Said) (words : List (List ℕ)) (entry : Entry) → session_entry said words ≡ Ok entry → Says said (codes "session" ∷ words) entry
 session_entry-Ok said [] entry h = cc
@@ -147,8 +147,8 @@ session_entry-Ok said (name ∷ []) entry h = cc
 session_entry-Ok said (name ∷ word ∷ []) entry h = cc
 session_entry-Ok said (name ∷ word ∷ primary ∷ []) entry h =
     elim (by_word word (codes "on") _ _ _ h) [
-      inl a ↦ subst (λ w. Says said (codes "session" ∷ name ∷ w ∷ primary ∷ []) entry) (sym a.0) (session-says said name primary (name_digits name) entry refl a.1)
-    | inr a ↦ cc
+      | inl a ↦ subst (λ w. Says said (codes "session" ∷ name ∷ w ∷ primary ∷ []) entry) (sym a.0) (session-says said name primary (name_digits name) entry refl a.1)
+      | inr a ↦ cc
     ]
 session_entry-Ok said (name ∷ word ∷ primary ∷ more ∷ rest) entry h = cc
 
@@ -204,11 +204,11 @@ next_line-Ok : (said : Said) (session : ℕ) (r : Result Stmt ℕ) (entry : Entr
 next_line-Ok said session (Err fault) entry h = cc
 next_line-Ok said session (Ok stmt) entry h =
     elim (by_bool (may_stand (is_open said.lines session) stmt) _ _ _ h) [
-      inl a ↦ elim (by_bool (nat_lt (length said.lines) 10000) _ _ _ a.1) [
-        inl b ↦ record { stmt = stmt; is = refl; stands = may_stand-true _ stmt a.0; room = ltb-true _ _ b.0; entry_is = ok_same b.1 }
-      | inr b ↦ absurd (wrong b.1)
+      | inl a ↦ elim (by_bool (nat_lt (length said.lines) 10000) _ _ _ a.1) [
+        | inl b ↦ record { stmt = stmt; is = refl; stands = may_stand-true _ stmt a.0; room = ltb-true _ _ b.0; entry_is = ok_same b.1 }
+        | inr b ↦ absurd (wrong b.1)
       ]
-    | inr a ↦ absurd (wrong a.1)
+      | inr a ↦ absurd (wrong a.1)
     ]
   where
     wrong : {f : ℕ} → ◌≡◌ {A = Result Entry ℕ} (Err f) (Ok entry) → ⊥
@@ -225,8 +225,8 @@ in_session-Ok : (said : Said) (word : Option ℕ) (words : List (List ℕ)) (ent
 in_session-Ok said None words entry h = cc
 in_session-Ok said (Some s) words entry h =
     elim (by_bool (is_declared said.sessions s) _ _ _ h) [
-      inl a ↦ record { session = s; is = refl; declared = a.0; rest = a.1 }
-    | inr a ↦ cc
+      | inl a ↦ record { session = s; is = refl; declared = a.0; rest = a.1 }
+      | inr a ↦ cc
     ]
 
 one_more : {a x : List ℕ} {b y : List (List ℕ)} → a ≡ x → b ≡ y → a ∷ b ≡ x ∷ y
@@ -241,15 +241,15 @@ stmt-says said name words (Some digits) entry n h =
     let w : (words ≡ stmt_words b.stmt) × IsStmt b.stmt = stmt_of-Ok words b.stmt b.is in
     let name_is : name ≡ name_text a.session = name_digits-Some name digits n ∙ ap (λ d. 115 ∷ d) s.0 in
     subst (Says said (name ∷ words)) b.entry_is
-      (record { declared = a.declared; number = refl; within = w.1; stands = b.stands; room = b.room }, one_more name_is w.0)
+    (record { declared = a.declared; number = refl; within = w.1; stands = b.stands; room = b.room }, one_more name_is w.0)
 
 -- what is said fits, and is spelled by its words
 pub entry_of-Ok : (said : Said) (words : List (List ℕ)) (entry : Entry) → entry_of said words ≡ Ok entry → Fits said entry × (words ≡ entry_words entry)
 entry_of-Ok said [] entry h = cc
 entry_of-Ok said (first ∷ rest) entry h =
     elim (by_word first (codes "session") _ _ _ h) [
-      inl a ↦ subst (λ w. Says said (w ∷ rest) entry) (sym a.0) (session_entry-Ok said rest entry a.1)
-    | inr a ↦ stmt-says said first rest (name_digits first) entry refl a
+      | inl a ↦ subst (λ w. Says said (w ∷ rest) entry) (sym a.0) (session_entry-Ok said rest entry a.1)
+      | inr a ↦ stmt-says said first rest (name_digits first) entry refl a
     ]
 
 -- the first line: two words, and a number from 1 to 8
@@ -258,29 +258,32 @@ header_of-Ok [] primaries h = cc
 header_of-Ok (word ∷ []) primaries h = cc
 header_of-Ok (word ∷ number ∷ []) primaries h =
     elim (by_word word (codes "primaries") _ _ _ h) [
-      inl a ↦ by_number (number_of number) refl a.0 a.1
-    | inr a ↦ cc
+      | inl a ↦ by_number (number_of number) refl a.0 a.1
+      | inr a ↦ cc
     ]
   where
     two : {a b x y : List ℕ} → a ≡ x → b ≡ y → a ∷ b ∷ [] ≡ x ∷ y ∷ []
     two e f = cc
+
     ok_number : {m n : ℕ} → ◌≡◌ {A = Result ℕ ℕ} (Ok m) (Ok n) → m ≡ n
     ok_number e = cc
+
     wrong : {f : ℕ} → ◌≡◌ {A = Result ℕ ℕ} (Err f) (Ok primaries) → ⊥
     wrong e = cc
+
     by_number : (o : Option ℕ) → number_of number ≡ o → word ≡ codes "primaries" → primaries_of o ≡ Ok primaries → (word ∷ number ∷ [] ≡ header_words primaries) × (1 ≤ primaries) × (primaries ≤ 8)
     by_number None n w e = cc
     by_number (Some p) n w e =
         elim (by_bool (p == 0) _ _ _ e) [
-          inl a ↦ absurd (wrong a.1)
-        | inr a ↦ elim (by_bool (nat_le p 8) _ _ _ a.1) [
-            inl b ↦
-              let same : p ≡ primaries = ok_number b.1 in
-              let t : (number ≡ decimal p) × (p < 2 ^ 32) = number_of-Some number p n in
-              let low : 1 ≤ p = nonzero p a.0 in
-              let high : p ≤ 8 = le-true p 8 b.0 in
-              (two w (t.0 ∙ ap decimal same), omega (arith, low, same), omega (arith, high, same))
-          | inr b ↦ absurd (wrong b.1)
+          | inl a ↦ absurd (wrong a.1)
+          | inr a ↦ elim (by_bool (nat_le p 8) _ _ _ a.1) [
+            | inl b ↦
+                let same : p ≡ primaries = ok_number b.1 in
+                let t : (number ≡ decimal p) × (p < 2 ^ 32) = number_of-Some number p n in
+                let low : 1 ≤ p = nonzero p a.0 in
+                let high : p ≤ 8 = le-true p 8 b.0 in
+                (two w (t.0 ∙ ap decimal same), omega (arith, low, same), omega (arith, high, same))
+            | inr b ↦ absurd (wrong b.1)
           ]
         ]
 header_of-Ok (word ∷ number ∷ more ∷ rest) primaries h = cc
@@ -325,6 +328,7 @@ digits_differ (c ∷ cs) h = wrong_letter (c == 101) _ (no_letter c (and-parts h
   where
     no_letter : (b : ℕ) → is_ascii_digit b ≡ true → (b == 101) ≡ false
     no_letter b h = grind (arith, nat_tests)
+
     wrong_letter : (a b : Bool) → a ≡ false → (a && b) ≡ false
     wrong_letter true b e = cc
     wrong_letter false b e = refl

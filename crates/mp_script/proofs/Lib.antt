@@ -1,6 +1,6 @@
 pub mod Numbers
 pub mod Splitting
-pub mod PlainWords
+pub mod WordBytes
 pub mod StmtWords
 pub mod Histories
 pub mod Lists
@@ -20,3 +20,6 @@ pub mod EntryLaws
 pub mod Below
 pub mod ScriptLaws
 pub mod Alone
+pub mod Canonical
+pub mod Pigeonhole
+pub mod Printed

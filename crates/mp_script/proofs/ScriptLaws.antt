@@ -1,9 +1,7 @@
 -- Bytes spell a script exactly where its lines say it without a fault, and they spell one alone.
-use Rattle.std.proofs.Common.{rules, arith, ◌≡◌, ◌≤◌, nat_le, ℕ, List, [], ◌∷◌, length, map, Bool, true, false, refl, sym, ap, subst, ◌∙◌, Option, Some, None, Result, Ok, Err, IfOk, if◌then◌else◌}
+use Rattle.std.proofs.Common.{arith, ◌≡◌, ◌≤◌, nat_le, ℕ, List, [], ◌∷◌, length, map, Bool, true, false, refl, sym, ap, subst, ◌∙◌, None, Result, Ok, Err, IfOk, if◌then◌else◌}
 use Rattle.std.specs.Result.{result_err}
 use Rattle.std.proofs.lemmas.Bool.Decides.{nat_tests}
-use Rattle.mp_script.specs.declared.statements.Line.{Line}
-use Rattle.mp_script.specs.declared.statements.SessionOn.{SessionOn}
 use Rattle.mp_script.specs.declared.statements.Script.{Script}
 use Rattle.mp_script.specs.declared.entries.Entry.{Entry}
 use Rattle.mp_script.specs.declared.entries.Entry.TheVariants.{Session, Statement}
@@ -70,13 +68,16 @@ said_by-Ok (kept ∷ rest) script h =
     let a : (primaries : ℕ) × ((header_of kept.words ≡ Ok primaries) × (said_below (start primaries) rest ≡ Ok (said_of script))) = at_line-Ok kept.number (header_of kept.words) (λ n. said_below (start n) rest) (said_of script) h in
     let b : (kept.words ≡ header_words a.0) × (1 ≤ a.0) × (a.0 ≤ 8) = header_of-Ok kept.words a.0 a.1.0 in
     let d : SaysAll (start a.0) rest (said_of script) = said_below-Ok (start a.0) rest (said_of script) a.1.1 in
-    let same : a.0 ≡ script.primaries = sym (primaries-after (start a.0) d.entries) ∙ ap (λ s. s.primaries) d.whole in
-    (d.entries, record {
-      primaries_low = omega (arith, b.1, same);
-      primaries_high = omega (arith, b.2, same);
-      words = one_more (b.0 ∙ ap header_words same) d.words;
-      fit = subst (λ n. AllFit (start n) d.entries) same d.fit;
-      whole = ap (λ n. said_after (start n) d.entries) (sym same) ∙ d.whole })
+    let same : a.0 ≡ script.primaries = sym (primaries-after (start a.0) d.entries) ∙ ap (λ s. s.primaries) d.whole in (
+      d.entries,
+      record {
+        primaries_low = omega (arith, b.1, same);
+        primaries_high = omega (arith, b.2, same);
+        words = one_more (b.0 ∙ ap header_words same) d.words;
+        fit = subst (λ n. AllFit (start n) d.entries) same d.fit;
+        whole = ap (λ n. said_after (start n) d.entries) (sym same) ∙ d.whole;
+      },
+    )
 
 pub said_by-words : (kept : List Kept) (script : Script) (entries : List Entry) → SpellsBy kept script entries → said_by kept ≡ Ok (said_of script)
 said_by-words [] script entries h = let w : [] ≡ header_words script.primaries ∷ map entry_words entries = h.words in cc

@@ -1,20 +1,19 @@
 -- The reader's tallies and sessions follow what is said.
-use Rattle.std.proofs.Common.{rules, arith, ◌≡◌, ◌≢◌, ◌==◌, ◌+◌, ◌<◌, ◌≤◌, ◌&&◌, ◌||◌, ◌++◌, ℕ, nat_eq, nat_le, List, [], ◌∷◌, length, map, Bool, true, false, refl, sym, ap, subst, ◌∙◌, Option, Some, None, is_some, cond, count_by, sum_by, if◌then◌else◌, add_assoc, add_comm, add-zero, zero-add, slice_index_or, slice_set, replicate, nat_lt, slice_get, take}
-use Rattle.std.specs.List.{list_any, list_all}
+use Rattle.std.proofs.Common.{arith, ◌≡◌, ◌≢◌, ◌==◌, ◌+◌, ◌<◌, ◌≤◌, ◌||◌, ◌++◌, ℕ, nat_eq, nat_le, List, [], ◌∷◌, length, Bool, true, false, refl, sym, ap, ◌∙◌, Option, Some, None, is_some, cond, if◌then◌else◌, add-zero, zero-add, slice_index_or, slice_set, replicate, nat_lt, slice_get, take}
+use Rattle.std.specs.List.{list_all}
 use Rattle.std.specs.Map.{lookup}
 use Rattle.std.proofs.lemmas.Bool.{eqb-true, ltb-true}
 use Rattle.std.proofs.lemmas.Bool.Decides.{nat_tests}
-use Rattle.std.proofs.lemmas.List.{map-append, length-append, get_or-set_other, get_or-replicate, get_or_past, length-replicate, take_more, take_all}
+use Rattle.std.proofs.lemmas.List.{map-append, get_or-set_other, get_or-replicate, get_or_past, length-replicate, take_more, take_all}
 use Rattle.std.proofs.lemmas.Option.{slice_get_within, get_or_from_slice_get}
 use Rattle.std.proofs.lemmas.Grind.{get_or-set_at}
 use Rattle.std.proofs.lemmas.List.Sums.{sum_by-append, count_by-le-length}
 use Rattle.std.proofs.lemmas.List.Folds.{list_all-append}
 use Rattle.mp_script.specs.declared.statements.Line.{Line}
 use Rattle.mp_script.specs.declared.statements.SessionOn.{SessionOn}
-use Rattle.mp_script.specs.declared.drafts.Draft.{Draft}
 use Rattle.mp_script.specs.declared.drafts.Tally.{Tally}
 use Rattle.mp_script.specs.Entries.{Said, is_declared, statements, open_after, open_behind, is_open}
-use Rattle.mp_script.specs.Drafts.{sessions_of, no_tally, tally_of, IsTallied}
+use Rattle.mp_script.specs.Drafts.{sessions_of, no_tally, tally_of}
 use Rattle.mp_script.proofs.Splitting.{and-parts, both}
 
 -- a look-up in the map finds the declared sessions
@@ -42,6 +41,7 @@ not_declared (e ∷ entries) session h l =
   where
     differs : (a b : ℕ) → nat_le a 64 ≡ true → 64 < b → (b == a) ≡ false
     differs a b h l = grind (arith, nat_tests)
+
     neither : {p q : Bool} → p ≡ false → q ≡ false → (p || q) ≡ false
     neither e f = cc
 
@@ -50,8 +50,10 @@ declared-within entries session h d = by_test (nat_le session 64) refl
   where
     above : nat_le session 64 ≡ false → 64 < session
     above e = grind (arith, nat_tests)
+
     within : nat_le session 64 ≡ true → session ≤ 64
     within e = grind (arith, nat_tests)
+
     by_test : (b : Bool) → nat_le session 64 ≡ b → session ≤ 64
     by_test true e = within e
     by_test false e = let n : is_declared (sessions_of entries) session ≡ false = not_declared entries session h (above e) in cc
@@ -87,6 +89,7 @@ tallies-push tallies lines line now whole h within index is session small = by_t
   where
     differs : (a b : ℕ) → (a == b) ≡ false → b ≢ a
     differs a b e = grind (arith, nat_tests)
+
     by_test : (b : Bool) → (line.session == session) ≡ b → slice_index_or (slice_set tallies line.session (tally line.index now)) session no_tally ≡ tally_of (lines ++ line ∷ []) session
     by_test true e =
         let same : line.session ≡ session = eqb-true _ _ e in
@@ -120,6 +123,7 @@ all-none n session = by_test (nat_lt session n) refl
   where
     above : nat_lt session n ≡ false → n ≤ session
     above e = grind (arith, nat_tests)
+
     by_test : (b : Bool) → nat_lt session n ≡ b → slice_index_or (replicate n no_tally) session no_tally ≡ no_tally
     by_test true e = get_or-replicate n session no_tally no_tally (ltb-true _ _ e)
     by_test false e = get_or_past (replicate n no_tally) session no_tally (omega (arith, above e, length-replicate n no_tally))

@@ -1,5 +1,5 @@
 -- What the reader keeps while it reads.
-use Rattle.std.specs.Prelude.{◌≡◌, ℕ, ◌≤◌, nat_le, List, map, length, Bool, true, false, slice_index_or}
+use Rattle.std.specs.Prelude.{◌≡◌, ℕ, ◌≤◌, nat_le, List, map, length, true, false, slice_index_or}
 use Rattle.std.specs.List.{list_all}
 use Rattle.mp_script.specs.declared.statements.Line.{Line}
 use Rattle.mp_script.specs.declared.statements.SessionOn.{SessionOn}

@@ -1,5 +1,5 @@
 -- What lines say, and what stands above a line.
-use Rattle.std.specs.Prelude.{◌==◌, ◌+◌, ℕ, List, [], ◌∷◌, ◌++◌, Bool, true, false, count_by, if◌then◌else◌}
+use Rattle.std.specs.Prelude.{◌==◌, ℕ, List, [], ◌∷◌, ◌++◌, Bool, true, false, count_by, if◌then◌else◌}
 use Rattle.std.specs.List.{list_any}
 use Rattle.mp_script.specs.declared.statements.Stmt.{Stmt}
 use Rattle.mp_script.specs.declared.statements.Stmt.TheVariants.{Begin, Get, Put, Del, Copy, Scan, Commit, Rollback}

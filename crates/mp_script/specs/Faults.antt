@@ -1,11 +1,9 @@
 -- What bytes say: a script, or the first fault with its line.
-use Rattle.std.specs.Prelude.{◌≡◌, ◌==◌, ◌+◌, ◌&&◌, ◌||◌, not, nat_lt, nat_le, ℕ, List, [], ◌∷◌, length, take, count_by, Bool, true, false, Option, Some, None, Result, Ok, Err, codes, if◌then◌else◌}
+use Rattle.std.specs.Prelude.{◌==◌, ◌+◌, not, nat_lt, nat_le, ℕ, List, [], ◌∷◌, length, take, count_by, Bool, Option, Some, None, Result, Ok, Err, codes, if◌then◌else◌}
 use Rattle.std.specs.Result.{result_err}
 use Rattle.std.specs.Str.{bytes_eq}
 use Rattle.mp_script.specs.declared.statements.Stmt.{Stmt}
 use Rattle.mp_script.specs.declared.statements.Stmt.TheVariants.{Begin, Get, Put, Del, Copy, Scan, Commit, Rollback}
-use Rattle.mp_script.specs.declared.statements.Line.{Line}
-use Rattle.mp_script.specs.declared.statements.SessionOn.{SessionOn}
 use Rattle.mp_script.specs.declared.entries.Entry.{Entry}
 use Rattle.mp_script.specs.declared.entries.Entry.TheVariants.{Session, Statement}
 use Rattle.mp_script.specs.Words.{Kept, kept_lines, name_digits, number_of, stmt_of, bad_header, unknown_word, bad_number, unknown_session, no_transaction, open_twice, too_many, too_long}
@@ -73,8 +71,8 @@ abbrev pub next_line : Said → ℕ → Result Stmt ℕ → Result Entry ℕ
 next_line said session (Err fault) = Err fault
 next_line said session (Ok stmt) =
     if may_stand (is_open said.lines session) stmt then
-      (if nat_lt (length said.lines) 10000 then Ok (Statement (record { session = session; index = statements said.lines session + 1; stmt = stmt }))
-       else Err too_many)
+    (if nat_lt (length said.lines) 10000 then Ok (Statement (record { session = session; index = statements said.lines session + 1; stmt = stmt }))
+    else Err too_many)
     else Err (misplaced (is_open said.lines session))
 
 -- a statement's session must be declared above, before its other words are looked at

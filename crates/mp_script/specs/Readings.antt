@@ -1,5 +1,5 @@
 -- What the reader's own calls answer.
-use Rattle.std.specs.Prelude.{◌≡◌, ℕ, Result, Ok, Err}
+use Rattle.std.specs.Prelude.{◌≡◌, Result, Ok, Err}
 use Rattle.mp_script.specs.declared.reading.ScriptRefusal.{ScriptRefusal}
 use Rattle.mp_script.specs.declared.reading.ScriptRefusal.TheVariants.{Fault, Memory}
 use Rattle.mp_script.specs.Faults.{FaultAt}

@@ -39,6 +39,10 @@ line_words line = name_text line.session ∷ stmt_words line.stmt
 abbrev pub words_text : List (List ℕ) → List ℕ
 words_text words = join_with_byte 32 words
 
+-- words with a space before each
+abbrev pub spaced : List (List ℕ) → List ℕ
+spaced words = flat_map (λ word. 32 ∷ word) words
+
 -- a statement's line
 abbrev pub line_text : Line → List ℕ
 line_text line = words_text (line_words line)

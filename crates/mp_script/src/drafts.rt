@@ -59,7 +59,11 @@ impl Draft {
             return None;
         }
         let session = number as u8;
-        if self.declares(session) { Some(session) } else { None }
+        if self.declares(session) {
+            Some(session)
+        } else {
+            None
+        }
     }
 
     /// The tally of a session.

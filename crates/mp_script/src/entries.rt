@@ -8,8 +8,8 @@ ghost use Rattle.mp_script.specs.Drafts.{said_in, IsTallied};
 use crate::drafts::Draft;
 use crate::statements::{Line, SessionOn, Stmt};
 use crate::words::{
-    BAD_HEADER, BAD_NUMBER, NO_TRANSACTION, OPEN_TWICE, TOO_MANY, UNKNOWN_SESSION, UNKNOWN_WORD, name_digits,
-    read_number, read_stmt,
+    BAD_HEADER, BAD_NUMBER, NO_TRANSACTION, OPEN_TWICE, TOO_MANY, UNKNOWN_SESSION, UNKNOWN_WORD,
+    name_digits, read_number, read_stmt,
 };
 
 /// The most primaries that a script may have.

@@ -104,12 +104,20 @@ fn header_at(alloc: Global, number: u32, line: &[u8]) -> Result<u8, ScriptRefusa
     let words = words_of(alloc, line)?;
     match read_header(&words) {
         Ok(primaries) => Ok(primaries),
-        Err(fault) => Err(ScriptRefusal::Fault { fault, line: number }),
+        Err(fault) => Err(ScriptRefusal::Fault {
+            fault,
+            line: number,
+        }),
     }
 }
 
 // What these lines say below the first kept one, which so many lines stand above.
-fn read_below(alloc: Global, primaries: u8, above: usize, lines: &[&[u8]]) -> Result<Draft, ScriptRefusal>
+fn read_below(
+    alloc: Global,
+    primaries: u8,
+    above: usize,
+    lines: &[&[u8]],
+) -> Result<Draft, ScriptRefusal>
     requires { above + length lines.now < 2 ^ 31 }
     ensures { Gives said_in (said_below (start primaries) (kept_from (above + 2) (map (λ l. l.now) lines.now))) result }
 {
@@ -123,7 +131,12 @@ fn read_below(alloc: Global, primaries: u8, above: usize, lines: &[&[u8]]) -> Re
 }
 
 // Adds what the line of that number says. After a fault nothing is said of the draft.
-fn read_line(alloc: Global, draft: &mut Draft, number: u32, line: &[u8]) -> Result<(), ScriptRefusal>
+fn read_line(
+    alloc: Global,
+    draft: &mut Draft,
+    number: u32,
+    line: &[u8],
+) -> Result<(), ScriptRefusal>
     requires { IsTallied draft.old }
     ensures said { Gives (λ _. said_in draft.new) (at_line number (entry_of (said_in draft.old) (words_of line.now)) (λ e. Ok (with_entry (said_in draft.old) e))) result }
     ensures tallied { OnOk result (IsTallied draft.new) }
@@ -131,6 +144,9 @@ fn read_line(alloc: Global, draft: &mut Draft, number: u32, line: &[u8]) -> Resu
     let words = words_of(alloc, line)?;
     match read_entry(draft, &words) {
         Ok(entry) => Ok(draft.add(entry)?),
-        Err(fault) => Err(ScriptRefusal::Fault { fault, line: number }),
+        Err(fault) => Err(ScriptRefusal::Fault {
+            fault,
+            line: number,
+        }),
     }
 }

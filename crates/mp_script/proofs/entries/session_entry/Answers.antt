@@ -22,6 +22,6 @@ long said (a ∷ b ∷ d ∷ e ∷ rest) h = refl
 
 pub returns-in_default : goal.returns-in_default
 returns-in_default c = elim c.in_default.branch [
-      in_default-via-then-words-lt3 w ↦ short (said_in c.args.draft.now) c.args.words.now (grind (arith, nat_tests))
-    | in_default-via-else-words-lt3+else-words-lt4 w ↦ long (said_in c.args.draft.now) c.args.words.now (grind (arith, nat_tests))
-    ]
+  | in_default-via-then-words-lt3 w ↦ short (said_in c.args.draft.now) c.args.words.now (grind (arith, nat_tests))
+  | in_default-via-else-words-lt3+else-words-lt4 w ↦ long (said_in c.args.draft.now) c.args.words.now (grind (arith, nat_tests))
+]

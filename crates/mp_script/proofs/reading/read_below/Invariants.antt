@@ -9,5 +9,5 @@ use Rattle.mp_script.proofs.reading.read_below.Given as goal
 abbrev pub invariant-loop-i : goal.invariant-loop-i
 invariant-loop-i l = record {
   rest : said_below (said_in l.draft) (kept_from (l.above + l.i + 2) (map (λ x. x.now) (drop l.i l.lines))) ≡ said_below (start l.primaries) (kept_from (l.above + 2) (map (λ x. x.now) l.lines));
-  tallied : IsTallied l.draft
+  tallied : IsTallied l.draft;
 }

@@ -1,5 +1,5 @@
 -- What is said fits.
-use Rattle.std.proofs.Common.{◌≡◌, ◌∙◌, ap, sym, map, List, ℕ}
+use Rattle.std.proofs.Common.{◌≡◌, ◌∙◌, ap, sym, map}
 use Rattle.mp_script.specs.Drafts.{said_in}
 use Rattle.mp_script.specs.Words.{words_of}
 use Rattle.mp_script.specs.Faults.{entry_of}

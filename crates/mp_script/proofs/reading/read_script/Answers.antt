@@ -1,9 +1,9 @@
 -- The first kept line has the number of primaries, and the rest stands below it.
-use Rattle.std.proofs.Common.{arith, ◌≡◌, ◌+◌, ◌-◌, ◌∷◌, [], ℕ, List, Bor, length, drop, take, map, sym, ap, subst, ◌∙◌, get_or, Ok, Err}
+use Rattle.std.proofs.Common.{arith, ◌≡◌, ◌+◌, ◌-◌, ◌∷◌, [], ℕ, List, Bor, length, drop, take, sym, ap, subst, ◌∙◌, get_or}
 use Rattle.std.proofs.lemmas.List.{take_all, length-drop}
-use Rattle.mp_script.specs.Words.{Kept, kept_from, words_of}
-use Rattle.mp_script.specs.Entries.{Said, start}
-use Rattle.mp_script.specs.Faults.{at_line, header_of, said_below, said_by}
+use Rattle.mp_script.specs.Words.{kept_from, words_of}
+use Rattle.mp_script.specs.Entries.{start}
+use Rattle.mp_script.specs.Faults.{said_below, said_by}
 use Rattle.mp_script.specs.Drafts.{said_in}
 use Rattle.mp_script.specs.Readings.{Gives}
 use Rattle.mp_script.proofs.Below.{texts, texts-drop, kept, kept-read, by-ok}

@@ -1,5 +1,5 @@
 -- A new session goes last.
-use Rattle.std.proofs.Common.{◌≡◌, ◌++◌, ◌∷◌, [], ℕ, List, nat_eq, nat_le, ap, ◌∙◌}
+use Rattle.std.proofs.Common.{◌≡◌, ◌++◌, ◌∷◌, [], nat_eq, nat_le, ap, ◌∙◌}
 use Rattle.std.specs.List.{list_all}
 use Rattle.indexmap.proofs.CallerLemmas.{insert_entry-new}
 use Rattle.mp_script.proofs.Tallies.{lookup-None, within-push, sessions_of-push, said}
@@ -18,4 +18,5 @@ returns-clause-tallied c =
       within = ap (list_all (λ x. nat_le x.0 64)) e ∙ within-push c.args.self.now.sessions.entries c.args.session.session c.args.session.primary c.requires.tallied.within c.requires.fits.session_high;
       whole = c.requires.tallied.whole;
       tallies = c.requires.tallied.tallies;
-      room = c.requires.tallied.room }
+      room = c.requires.tallied.room;
+    }

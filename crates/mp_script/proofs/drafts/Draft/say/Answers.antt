@@ -13,4 +13,5 @@ returns-clause-tallied c =
       within = c.requires.tallied.within;
       whole = length-set c.args.self.now.tallies c.args.line.session _ ∙ c.requires.tallied.whole;
       tallies = λ session small. tallies-push c.args.self.now.tallies c.args.self.now.lines.items c.args.line c.open_after.result c.requires.tallied.whole c.requires.tallied.tallies c.requires.session c.requires.fits.number c.open_after.ensures session small ∙ ap (λ x. tally_of x session) (sym lines);
-      room = omega (arith, ap length lines, length-append {A = Line}, c.requires.fits.room) }
+      room = omega (arith, ap length lines, length-append {A = Line}, c.requires.fits.room);
+    }
