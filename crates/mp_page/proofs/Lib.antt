@@ -1,0 +1,5 @@
+pub mod Checks
+pub mod Codecs
+pub mod PageAgain
+pub mod PageSpelling
+pub mod Steps
