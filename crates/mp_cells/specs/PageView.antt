@@ -1,5 +1,5 @@
 -- A page as data: what it is, and which ones there may be.
-use Rattle.std.specs.Prelude.{◌≡◌, ℕ, ◌<◌, ◌≤◌, ◌^◌, ◌+◌, ◌/◌, ◌%◌, ◌==◌, ◌&&◌, Bool, false, nat_lt, nat_le, List, [], ◌∷◌, length, slice_index, slice_set, sum_by, count_ones, IsTrue}
+use Rattle.std.specs.Prelude.{◌≡◌, ℕ, ◌<◌, ◌≤◌, ◌^◌, ◌/◌, ◌%◌, ◌==◌, ◌&&◌, Bool, false, nat_lt, nat_le, List, [], ◌∷◌, length, slice_index, slice_set, bit_or, sum_by, count_ones, IsTrue}
 use Rattle.std.specs.Int.{bit_at}
 use Rattle.std.specs.List.{AllByRecursion}
 use Rattle.mp_cells.specs.declared.kinds.Kind.{Kind}
@@ -76,9 +76,9 @@ pub record IsPage (page : PageView) : Type 0 where
 abbrev pub bit_of : List ℕ → ℕ → ℕ
 bit_of bits page = bit_at (slice_index bits (page / 8)) (page % 8)
 
--- the bits with a clear one set
+-- the bits with one set
 abbrev pub with_bit : List ℕ → ℕ → List ℕ
-with_bit bits page = slice_set bits (page / 8) (slice_index bits (page / 8) + 2 ^ (page % 8))
+with_bit bits page = slice_set bits (page / 8) (bit_or (slice_index bits (page / 8)) (2 ^ (page % 8)))
 
 -- how many bits are set
 abbrev pub bits_set : List ℕ → ℕ

@@ -1,3 +1,4 @@
+pub mod Applied
 pub mod Checks
 pub mod Codecs
 pub mod PageAgain

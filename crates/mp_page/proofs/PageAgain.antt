@@ -1,9 +1,9 @@
 -- A page's spelling has no fault, and is read as the page.
-use Rattle.std.proofs.Common.{◌≡◌, ℕ, suc, ◌+◌, ◌-◌, ◌*◌, ◌^◌, ◌<◌, ◌≤◌, nat_le, nat_lt, true, List, [], ◌∷◌, ◌++◌, length, take, drop, get_or, replicate, None, refl, sym, ap, ◌∙◌, arith}
+use Rattle.std.proofs.Common.{◌≡◌, ℕ, suc, ◌+◌, ◌-◌, ◌*◌, ◌^◌, ◌<◌, ◌≤◌, nat_le, true, List, [], ◌∷◌, ◌++◌, length, take, drop, get_or, replicate, None, refl, sym, ap, ◌∙◌, arith}
 use mathlib.Core.Bool.{false≢true}
 use Rattle.std.specs.Prelude.{count_ones}
 use Rattle.std.specs.List.{flat_map, AllByRecursion}
-use Rattle.std.proofs.lemmas.Bool.{and_parts, and_from, leb-true, le-leb, ltb-true, lt-ltb, eqb-true, eq-eqb}
+use Rattle.std.proofs.lemmas.Bool.{and_from, le-leb, lt-ltb, eqb-true, eq-eqb}
 use Rattle.std.proofs.lemmas.List.{append_assoc, drop_at, take_at, drop-drop}
 use Rattle.std.proofs.lemmas.List.Sums.{sum_by-cons}
 use borrow.Author.Numbers.{ones_of_8}
@@ -16,44 +16,13 @@ use Rattle.mp_cells.specs.Rows.{IsRow}
 use Rattle.mp_cells.specs.Children.{IsChild}
 use Rattle.mp_cells.specs.RowCell.{row_cell, row_of, is_row_cell}
 use Rattle.mp_cells.specs.ChildCell.{child_cell, child_of, is_child_cell}
-use Rattle.mp_cells.specs.PageView.{PageView, blank_page, meta_page, leaf_page, inner_page, undo_page, are_fences, is_leaf, is_inner, begins_at, AreBits, HasContent, IsPage, kind_number, count_of, bits_set}
-use Rattle.mp_cells.proofs.KeyOrder.{Rises, Rises-from_test, Rises-wider}
+use Rattle.mp_cells.specs.PageView.{PageView, blank_page, meta_page, leaf_page, inner_page, undo_page, is_leaf, is_inner, begins_at, AreBits, HasContent, IsPage, kind_number, count_of, bits_set}
+use Rattle.mp_cells.proofs.KeyOrder.{Rises-wider}
+use Rattle.mp_cells.proofs.PageRanges.{leaf_ranges, inner_ranges}
 use Rattle.mp_page.specs.Grammar.{page_format, page_header, page_cells, spelling, kind_of, read_as, page_of, is_count, has_fences, cell_key, cells_fault, cells_length, header_fault, body_fault, first_fault}
 use Rattle.mp_page.proofs.Checks.{header_none, passed, found_none}
 use Rattle.mp_page.proofs.Codecs.{AreBytes, row_codec, child_codec, keyed_none, undo_none, cells_again, length-cells}
 use Rattle.mp_page.proofs.PageSpelling.{zeros_pass, HeaderReads, header_reads, body_none, kind_of-kind_number}
-
--- the ranges of a leaf, from its test
-pub record LeafRanges (low high : ℕ) (rows : List Row) : Type 0 where
-  pub fences : are_fences low high ≡ true
-  pub low_below : low < high
-  pub high_most : high ≤ 2 ^ 32
-  pub most : length rows ≤ 15
-  pub rises : Rises (λ row. row.key) low high rows
-
-pub leaf_ranges : (low high : ℕ) (rows : List Row) → is_leaf low high rows ≡ true → LeafRanges low high rows
-leaf_ranges low high rows h =
-    let a = and_parts _ _ h in
-    let b = and_parts _ _ a.0 in
-    let f = and_parts (nat_lt low high) (nat_le high (2 ^ 32)) b.0 in
-    record { fences = b.0; low_below = ltb-true low high f.0; high_most = leb-true high (2 ^ 32) f.1; most = leb-true _ 15 b.1; rises = Rises-from_test (λ (row : Row). row.key) low high rows a.1 }
-
--- the ranges of an inner page, from its test
-pub record InnerRanges (low high : ℕ) (children : List Child) : Type 0 where
-  pub fences : are_fences low high ≡ true
-  pub low_below : low < high
-  pub high_most : high ≤ 2 ^ 32
-  pub first : begins_at low children ≡ true
-  pub most : length children ≤ 124
-  pub rises : Rises (λ child. child.low) low high children
-
-pub inner_ranges : (low high : ℕ) (children : List Child) → is_inner low high children ≡ true → InnerRanges low high children
-inner_ranges low high children h =
-    let a = and_parts _ _ h in
-    let b = and_parts _ _ a.0 in
-    let c = and_parts _ _ b.0 in
-    let f = and_parts (nat_lt low high) (nat_le high (2 ^ 32)) c.0 in
-    record { fences = c.0; low_below = ltb-true low high f.0; high_most = leb-true high (2 ^ 32) f.1; first = c.1; most = leb-true _ 124 b.1; rises = Rises-from_test (λ (child : Child). child.low) low high children a.1 }
 
 -- what is written of a page's body
 pub record BodyWritten (page : PageView) : Type 0 where

@@ -2,11 +2,14 @@
 //! change does is defined below, in `mp_cells`, whose types are handed on from here.
 #![tactic(auto)]
 
+mod bits;
 mod body;
+mod changing;
 mod page;
 mod reading;
 mod writing;
 
+pub use changing::apply;
 pub use mp_cells::{
     Change, Child, ChildCells, Fault, Kind, Link, Mtr, NotApplicable, PageFault, Record, Records,
     Row, RowCells,

@@ -7,12 +7,15 @@ ghost use Rattle.mp_cells.specs.declared.kinds.Kind.TheVariants.{Meta, Leaf, Inn
 ghost use Rattle.mp_cells.specs.Rows.{IsRow};
 ghost use Rattle.mp_cells.specs.Children.{IsChild};
 ghost use Rattle.mp_cells.specs.PageView.{IsPage, blank_page, count_of, bit_of, is_of};
+ghost use Rattle.mp_cells.specs.Changes.{Applies, HasCells};
 ghost use Rattle.mp_page.specs.Grammar.{page_cells};
 
+use crate::bits::is_taken;
 use crate::body::Body;
+use crate::changing::change_body;
 use crate::reading::bits_set;
 use crate::writing::{write_children, write_rows};
-use mp_cells::{Child, Kind, Row};
+use mp_cells::{Change, Child, Kind, NotApplicable, Row};
 use std::marker::Model;
 
 /// A page, in place. Contracts see its kind, its LLSN (below 2^62), its fences, and its rows, children or bits.
@@ -132,5 +135,49 @@ impl Page {
             Body::Inner { children, .. } => write_children(children.as_slice(), into),
             Body::Undo(rows) => write_rows(rows.as_slice(), into),
         }
+    }
+
+    /// Whether the bit of a page (below 4,096) is set, on the meta page.
+    pub fn taken(&self, page: u16) -> bool
+        requires meta { IsTrue (is_of Meta self.now) }
+        requires range { page < 4096 }
+        ensures { result ≡ (bit_of self.now.bits page == 1) }
+    {
+        match &self.body {
+            Body::Meta(bits) => is_taken(bits.as_slice(), page),
+            _ => unreachable!(),
+        }
+    }
+
+    /// The i-th row of a leaf or an undo page, from 0.
+    pub fn row(&self, i: u16) -> Row
+        requires { i < length self.now.rows }
+        ensures value { slice_get self.now.rows i ≡ Some result }
+        ensures kept { IsRow result }
+    {
+        match &self.body {
+            Body::Leaf { rows, .. } | Body::Undo(rows) => rows.get(usize::from(i)),
+            _ => unreachable!(),
+        }
+    }
+
+    /// The i-th child of an inner page, from 0.
+    pub fn child(&self, i: u16) -> Child
+        requires { i < length self.now.children }
+        ensures value { slice_get self.now.children i ≡ Some result }
+        ensures kept { IsChild result }
+    {
+        match &self.body {
+            Body::Inner { children, .. } => children.get(usize::from(i)),
+            _ => unreachable!(),
+        }
+    }
+
+    /// Applies a change, as `apply` does.
+    pub(crate) fn apply(&mut self, change: &Change) -> Result<(), NotApplicable>
+        requires { HasCells change.now }
+        ensures { Applies change.now self.old self.new result }
+    {
+        change_body(&mut self.body, change)
     }
 }
