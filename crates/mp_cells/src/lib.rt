@@ -26,3 +26,6 @@ pub use records::{Mtr, Record, Records};
 pub use row_bytes::{read_row, row_of, write_row};
 pub use row_cells::RowCells;
 pub use rows::{Link, Row};
+
+#[cfg(test)]
+mod tests;

@@ -17,3 +17,6 @@ pub use mp_cells::{
 pub use page::Page;
 pub use reading::read_page;
 pub use writing::write_page;
+
+#[cfg(test)]
+mod tests;
