@@ -1,0 +1,9 @@
+pub mod Keys
+pub mod Numbers
+pub mod Rows
+pub mod Children
+pub mod RowCell
+pub mod ChildCell
+pub mod PageView
+pub mod Changes
+pub mod Mtrs

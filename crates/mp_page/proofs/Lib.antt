@@ -1,0 +1,6 @@
+pub mod Applied
+pub mod Checks
+pub mod Codecs
+pub mod PageAgain
+pub mod PageSpelling
+pub mod Steps

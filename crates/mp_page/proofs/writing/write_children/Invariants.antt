@@ -1,0 +1,8 @@
+-- the cells so far, and the bytes behind them
+use Rattle.std.proofs.Common.{◌≡◌, ◌*◌, ◌++◌, take, drop}
+use Rattle.std.specs.List.{flat_map}
+use Rattle.mp_cells.specs.ChildCell.{child_cell}
+use Rattle.mp_page.proofs.writing.write_children.Given as goal
+
+abbrev pub invariant-loop-i : goal.invariant-loop-i
+invariant-loop-i l = l.into ≡ flat_map child_cell (take l.i l.children) ++ drop (8 * l.i) l.initial.into
