@@ -19,7 +19,16 @@ time_of() {
     echo "$(( (end - start) / 1000000 )) ms"
 }
 
+# as long as a script may be: 10,000 statements, and comments up to 1,048,576 bytes
+{
+    printf 'primaries 1\nsession s1 on 1\n'
+    awk 'BEGIN { for (i = 0; i < 5000; i++) print "s1 begin\ns1 commit" }'
+    yes '# a comment of thirty-two bytes  '
+} | head -c 1048576 > "$folder/longest.mps"
+
 step_from() { ./mp step < "$1"; }
 
 echo "step, 10,000 statements, 9,998 puts of distinct keys: $(time_of step_from "$folder/puts.mps")"
+tail -n 1 "$folder/out"
+echo "step, a script of 1,048,576 bytes with 10,000 statements: $(time_of step_from "$folder/longest.mps")"
 tail -n 1 "$folder/out"

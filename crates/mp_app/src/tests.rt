@@ -113,6 +113,10 @@ fn scripts_are_refused_by_their_first_fault(rt: HostRuntime) -> Result<(), Fail>
             "refused script fault 7 line 4\n",
         ),
         (
+            "primaries 1\nsession s1 on 1\ns1 begin\ns1 put 4294967295 xxxxxxxxxxxxxxxxxxxxxxxxxxxxxxxxx\n",
+            "refused script fault 4 line 4\n",
+        ),
+        (
             "primaries 1\nsession s1 on 1\ns1 scan 0 101\n",
             "refused script fault 8 line 3\n",
         ),
