@@ -1,0 +1,10 @@
+pub mod Lists
+pub mod Words
+pub mod Frames
+pub mod Ids
+pub mod Timestamps
+pub mod Sight
+pub mod SlotWords
+pub mod Reliable
+pub mod Keeps
+mod Worked
