@@ -7,4 +7,8 @@ pub mod Sight
 pub mod SlotWords
 pub mod Reliable
 pub mod Keeps
+pub mod Bounds
+pub mod Law
+pub mod Growth
+pub mod Places
 mod Worked

@@ -1,5 +1,5 @@
 -- One item more: what stands in the list, what differs, and what a sum over nodes becomes.
-use Rattle.std.proofs.Common.{◌≡◌, ℕ, zero, suc, ◌+◌, ◌*◌, ◌<◌, ◌≤◌, ◌==◌, ◌⊎◌, List, [], ◌∷◌, ◌++◌, length, Bool, true, false, if◌then◌else◌, refl, sym, ap, ◌∙◌, subst, inl, inr, ⊎_elim, arith, eq-eqb, ne_eqb, append_assoc}
+use Rattle.std.proofs.Common.{◌≡◌, ℕ, zero, suc, ◌+◌, ◌*◌, ◌<◌, ◌≤◌, ◌==◌, ◌⊎◌, List, [], ◌∷◌, ◌++◌, length, Bool, true, false, if◌then◌else◌, refl, sym, ap, ◌∙◌, subst, inl, inr, ⊎_elim, arith, eq-eqb, ne_eqb, append_assoc, add-one}
 use mathlib.Core.Logic.{dite}
 use native.Mathlib.Decide.{ℕ_discrete}
 use Rattle.mp_core_trx.specs.Lists.{IsIn, AllDiffer, Grows, updated, pushed, total}
@@ -100,7 +100,10 @@ total_length_pushed f n x (suc count) h =
     let last : length (pushed f n x count) ≡ length (f count) = ap length (pushed_else f n x count other) in
     omega arith)
 
--- a sum of bounded numbers
-pub total_bounded : (f : ℕ → ℕ) (most count : ℕ) → ((k : ℕ) → f k ≤ most) → total f (suc count) ≤ f 0 + count * most
-total_bounded f most zero h = omega arith
-total_bounded f most (suc count) h = let before = total_bounded f most count h in let last = h (suc count) in omega arith
+bounded_by : (f : ℕ → ℕ) (most count : ℕ) → ((k : ℕ) → f k ≤ most) → total f (suc count) ≤ f 0 + count * most
+bounded_by f most zero h = omega arith
+bounded_by f most (suc count) h = let before = bounded_by f most count h in let last = h (suc count) in omega arith
+
+-- a sum of bounded numbers is bounded
+pub total_bounded : (f : ℕ → ℕ) (most count : ℕ) → ((k : ℕ) → f k ≤ most) → total f (count + 1) ≤ f 0 + count * most
+total_bounded f most count h = rw add-one (bounded_by f most count h)

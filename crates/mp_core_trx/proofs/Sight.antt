@@ -39,6 +39,10 @@ module _ (base clock : ℕ) (begun : ℕ → List Begun) (seen : ℕ → List �
   pub greatest_drawn : (n : ℕ) → greatest base (seen n) ≤ clock
   greatest_drawn n = greatest_below base clock (seen n) s.from_base (λ v h. (s.values n v h).1)
 
+  -- who loads the oracle knows all that was drawn
+  pub greatest_at_load : (n : ℕ) → greatest base (clock ∷ seen n) ≡ clock
+  greatest_at_load n = let most = greatest_drawn n in omega arith
+
   pub sight_see : (n v later : ℕ) → base ≤ v → v ≤ later → clock ≤ later → Sight base later begun (pushed seen n v) loaded
   sight_see n v later low high on =
       let from = s.from_base in

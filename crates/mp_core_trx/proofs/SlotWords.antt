@@ -159,3 +159,7 @@ once_begin o begun rows n id view x i all free same k other h =
     (λ (stays : shown_at (pushed rows n (row_of id x) k) other.slot ≡ shown_at (rows k) other.slot). ap (λ (y : Shown). y.version) stays ∙ was)
     (shown_pushed rows n (row_of id x) k other.slot))
     (begun_cases begun n (begin_of id view) k other h)
+
+-- so no two transactions of a node have one slot
+pub one_slot : (o : TrxOpening) (begun : ℕ → List Begun) (rows : ℕ → List SlotRow) → Ids o begun → SlotsUsedOnce begun rows → (n : ℕ) (a b : TrxId) → HasBegun (begun n) a → HasBegun (begun n) b → a.slot ≡ b.slot → a ≡ b
+one_slot o begun rows i all n a b h k same = same_id o begun i n a b h k (sym (all n a h) ∙ ap (λ s. (shown_at (rows n) s).version) same ∙ all n b k)

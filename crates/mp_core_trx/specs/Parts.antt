@@ -1,5 +1,5 @@
 -- What a node's part shows.
-use Rattle.std.specs.Prelude.{◌≡◌, ℕ, ◌≤◌, ◌==◌, max, if◌then◌else◌, ◌⊎◌, List, [], ◌∷◌}
+use Rattle.std.specs.Prelude.{◌≡◌, ℕ, ◌+◌, ◌≤◌, ◌==◌, max, if◌then◌else◌, ◌⊎◌, Option, None, Some, List, [], ◌∷◌, length}
 use Rattle.mp_model.specs.declared.ids.TrxId.{TrxId}
 use Rattle.mp_core_trx.specs.declared.opening.TrxOpening.{TrxOpening}
 use Rattle.mp_core_trx.specs.declared.slot.SlotTag.{SlotTag}
@@ -9,7 +9,7 @@ use Rattle.mp_core_trx.specs.declared.part.Begun.{Begun}
 use Rattle.mp_core_trx.specs.declared.part.SlotRow.{SlotRow}
 use Rattle.mp_core_trx.specs.declared.part.Draw.{Draw}
 use Rattle.mp_core_trx.specs.declared.part.TrxPart.{TrxPart}
-use Rattle.mp_core_trx.specs.Lists.{IsIn, Grows}
+use Rattle.mp_core_trx.specs.Lists.{IsIn, Grows, total}
 use Rattle.mp_core_trx.specs.Words.{shows}
 
 abbrev pub trx : ℕ → ℕ → ℕ → TrxId
@@ -67,3 +67,12 @@ pub record Extends (old new : TrxPart) : Type 0 where
   pub more_drawn : Grows old.drew new.drew
   pub more_seen : Grows old.seen new.seen
   pub more_loaded : Grows old.loaded new.loaded
+
+-- how many timestamps a part drew, if it is held
+abbrev pub drawn_by : Option TrxPart → ℕ
+drawn_by (Some p) = length p.drew
+drawn_by None = 0
+
+-- how many the parts drew that are held of all nodes
+abbrev pub drawn_by_all : TrxOpening → (ℕ → Option TrxPart) → ℕ
+drawn_by_all opening held = total (λ n. drawn_by (held n)) (opening.primaries + 1)
