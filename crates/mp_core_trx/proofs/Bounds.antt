@@ -1,5 +1,5 @@
 -- Numbers in a range of which no two are equal are no more than the range has: so a node begins and draws only so often, and the timestamp oracle stays within its bits.
-use Rattle.std.proofs.Common.{◌≡◌, ℕ, zero, suc, ◌+◌, ◌-◌, ◌*◌, ◌^◌, ◌<◌, ◌≤◌, ◌||◌, Bool, true, false, eqb, List, [], ◌∷◌, length, map, refl, sym, ap, ◌∙◌, subst, inl, inr, ⊎_elim, arith, ne_eqb, mul-le-mul_right}
+use Rattle.std.proofs.Common.{◌≡◌, ℕ, ◌+◌, ◌-◌, ◌*◌, ◌^◌, ◌<◌, ◌≤◌, true, false, eqb, List, [], ◌∷◌, length, map, refl, sym, subst, inl, inr, ⊎_elim, arith, ne_eqb, mul-le-mul_right}
 use Rattle.std.specs.List.{list_any, AllByRecursion, IsDistinct}
 use Rattle.std.proofs.lemmas.Bool.{cases_Bool}
 use Rattle.std.proofs.lemmas.Bool.Decides.{nat_tests}
@@ -8,10 +8,9 @@ use Rattle.std.proofs.lemmas.Map.Steps.{length-le_from_distinct_below}
 use Rattle.mp_model.specs.declared.ids.TrxId.{TrxId}
 use Rattle.mp_core_trx.specs.declared.opening.TrxOpening.{TrxOpening}
 use Rattle.mp_core_trx.specs.declared.slot.SlotTag.TheVariants.{Committed}
-use Rattle.mp_core_trx.specs.declared.slot.Shown.{Shown}
 use Rattle.mp_core_trx.specs.declared.part.Begun.{Begun}
 use Rattle.mp_core_trx.specs.declared.part.Draw.{Draw}
-use Rattle.mp_core_trx.specs.Lists.{IsIn, AllDiffer, total}
+use Rattle.mp_core_trx.specs.Lists.{IsIn, AllDiffer}
 use Rattle.mp_core_trx.specs.Parts.{trx, begin_of, draw_of, shown_at}
 use Rattle.mp_core_trx.specs.Events.{Place, tso, tit}
 use Rattle.mp_core_trx.specs.World.{TrxWorld, content, IsFair, begun_in, rows_in, drawn_in}
@@ -98,12 +97,12 @@ module _ (o : TrxOpening) (w : TrxWorld) (i : Inv o w) where
       let small = clock_fits fair in (
         version_fits o fair (begun_in w) i.ids (drawn_in w n) n slot x right,
         ⊎_elim
-        (λ (none : x.cts ≡ 0). omega arith)
-        (λ (is : x.tag ≡ Committed).
-        let drawn = right.committed x.version x.cts (λ k. record { tag = is k; version = x.version; cts = x.cts }) in
-        let range = (i.draws.within n (draw_of (trx n slot x.version) x.cts) drawn).1 in
-        omega arith)
-        right.stamped,
+            (λ (none : x.cts ≡ 0). omega arith)
+            (λ (is : x.tag ≡ Committed).
+            let drawn = right.committed x.version x.cts (λ k. record { tag = is k; version = x.version; cts = x.cts }) in
+            let range = (i.draws.within n (draw_of (trx n slot x.version) x.cts) drawn).1 in
+            omega arith)
+            right.stamped,
       )
 
   -- and each word

@@ -1,6 +1,5 @@
 -- What an event makes of each component, and so what it leaves.
 use Rattle.std.proofs.Common.{◌≡◌, ℕ, ◌+◌, ◌==◌, List, Bool, true, false, if◌then◌else◌, refl, ◌∙◌}
-use Rattle.mp_core_trx.specs.declared.opening.TrxOpening.{TrxOpening}
 use Rattle.mp_core_trx.specs.declared.slot.SlotTag.TheVariants.{Active, Prep}
 use Rattle.mp_core_trx.specs.declared.part.Begun.{Begun}
 use Rattle.mp_core_trx.specs.declared.part.SlotRow.{SlotRow}
@@ -122,4 +121,3 @@ loaded_are w (StorePrep n id) = left (λ p. p.loaded) w.part n (part_after w (St
 loaded_are w (DrawTso n id) = left (λ p. p.loaded) w.part n (part_after w (DrawTso n id)) refl
 loaded_are w (StoreEnd n id cts) = left (λ p. p.loaded) w.part n (part_after w (StoreEnd n id cts)) refl
 loaded_are w (LoadTit n whose slot) = changed (λ p. p.loaded) w.part n (part_after w (LoadTit n whose slot))
-

@@ -1,5 +1,5 @@
 -- A transaction that begins has an id that is new and in range.
-use Rattle.std.proofs.Common.{◌≡◌, ℕ, ◌+◌, ◌<◌, ◌≤◌, ◌⊎◌, List, ◌∷◌, refl, sym, ap, ◌∙◌, subst, inl, inr, ⊎_elim, arith}
+use Rattle.std.proofs.Common.{◌≡◌, ℕ, ◌+◌, ◌<◌, ◌≤◌, ◌⊎◌, List, ap, inl, inr, ⊎_elim}
 use Rattle.mp_model.specs.declared.ids.TrxId.{TrxId}
 use Rattle.mp_core_trx.specs.declared.opening.TheConstants.{SLOTS}
 use Rattle.mp_core_trx.specs.declared.opening.TrxOpening.{TrxOpening}

@@ -1,22 +1,17 @@
 -- Each event that is allowed keeps the invariant.
-use Rattle.std.proofs.Common.{◌≡◌, ℕ, ◌+◌, ◌^◌, ◌<◌, ◌≤◌, ◌⊎◌, Option, None, Some, List, [], ◌∷◌, refl, sym, ap, ◌∙◌, subst, inl, inr, ⊎_elim, arith}
+use Rattle.std.proofs.Common.{◌≡◌, ℕ, ◌+◌, ◌<◌, ◌≤◌, Option, None, Some, refl, sym, ap, subst, arith}
 use Rattle.mp_model.specs.declared.ids.TrxId.{TrxId}
 use Rattle.mp_core_trx.specs.declared.opening.TrxOpening.{TrxOpening}
-use Rattle.mp_core_trx.specs.declared.slot.SlotTag.TheVariants.{Free, Active, Prep, Committed}
+use Rattle.mp_core_trx.specs.declared.slot.SlotTag.TheVariants.{Active, Prep}
 use Rattle.mp_core_trx.specs.declared.slot.Shown.{Shown}
-use Rattle.mp_core_trx.specs.declared.part.Begun.{Begun}
-use Rattle.mp_core_trx.specs.declared.part.SlotRow.{SlotRow}
-use Rattle.mp_core_trx.specs.declared.part.Draw.{Draw}
-use Rattle.mp_core_trx.specs.declared.part.SlotLoad.{SlotLoad}
-use Rattle.mp_core_trx.specs.declared.part.TrxPart.{TrxPart}
 use Rattle.mp_core_trx.specs.declared.event.TrxEvent.{TrxEvent}
 use Rattle.mp_core_trx.specs.declared.event.TrxEvent.TheVariants.{LoadTso, StoreActive, StorePrep, DrawTso, StoreEnd, LoadTit}
 use Rattle.mp_core_trx.specs.Lists.{pushed}
 use Rattle.mp_core_trx.specs.Words.{shows, word_of}
-use Rattle.mp_core_trx.specs.Parts.{begin_of, draw_of, shown_at, HasBegun, greatest, newest}
+use Rattle.mp_core_trx.specs.Parts.{begin_of, shown_at, HasBegun, greatest, newest}
 use Rattle.mp_core_trx.specs.Events.{IsNode, node_of, ended, load_of, MayEnd, MayBegin, Asks, Allowed}
 use Rattle.mp_core_trx.specs.World.{TrxWorld, after, clock_after, IsFair, openings_in, begun_in, rows_in, drawn_in, seen_in, loaded_in}
-use Rattle.mp_core_trx.specs.Invariant.{Ids, Sight, IsRight, Holds, Inv}
+use Rattle.mp_core_trx.specs.Invariant.{Sight, IsRight, Holds, Inv}
 use Rattle.mp_core_trx.proofs.Frames.{openings_are, begun_after, begun_are, rows_after, rows_are, drawn_after, drawn_are, seen_after, seen_are, loaded_after, loaded_are}
 use Rattle.mp_core_trx.proofs.Ids.{ids_begin, begun_new}
 use Rattle.mp_core_trx.proofs.Timestamps.{draws_draw, drawers_draw, drawers_begin, fresh_drew_nothing}

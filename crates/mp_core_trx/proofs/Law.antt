@@ -1,21 +1,22 @@
 -- The invariant holds wherever allowed events lead, and who holds all parts knows the timestamp oracle.
-use Rattle.std.proofs.Common.{◌≡◌, ℕ, zero, suc, ◌+◌, ◌*◌, ◌<◌, ◌≤◌, ◌⊎◌, Option, None, Some, List, [], ◌∷◌, length, refl, sym, ap, ◌∙◌, subst, inl, inr, arith}
+use Rattle.std.proofs.Common.{◌≡◌, ℕ, zero, suc, ◌+◌, ◌*◌, ◌<◌, ◌≤◌, Option, None, Some, List, [], ◌∷◌, length, refl, sym, ap, ◌∙◌, subst, inl, arith}
 use mathlib.Core.Logic.{dite}
 use native.Mathlib.Decide.{ℕ_discrete}
 use Rattle.mp_machine.specs.Machine.{run, AllAllowed, run_from, AllowedFrom}
 use Rattle.mp_machine.proofs.Time.{kept, in_time}
 use Rattle.mp_core_trx.specs.declared.opening.TrxOpening.{TrxOpening}
-use Rattle.mp_core_trx.specs.declared.slot.SlotTag.TheVariants.{Free, Active, Committed}
-use Rattle.mp_core_trx.specs.declared.part.Draw.{Draw}
+use Rattle.mp_core_trx.specs.declared.slot.SlotTag.TheVariants.{Committed}
 use Rattle.mp_core_trx.specs.declared.part.TrxPart.{TrxPart}
 use Rattle.mp_core_trx.specs.declared.event.TrxEvent.{TrxEvent}
+use Rattle.mp_core_trx.specs.declared.event.TrxEvent.TheVariants.{LoadTso}
 use Rattle.mp_core_trx.specs.Lists.{total}
 use Rattle.mp_core_trx.specs.Words.{shows}
-use Rattle.mp_core_trx.specs.Parts.{unused, drawn_by, drawn_by_all}
+use Rattle.mp_core_trx.specs.Parts.{greatest, newest, unused, drawn_by, drawn_by_all}
 use Rattle.mp_core_trx.specs.Events.{IsNode}
-use Rattle.mp_core_trx.specs.World.{TrxWorld, start, IsFair, transactions, drawn_in}
+use Rattle.mp_core_trx.specs.World.{TrxWorld, part_after, begun_in, seen_in, loaded_in, start, IsFair, transactions, drawn_in}
 use Rattle.mp_core_trx.specs.Invariant.{IsRight, Inv}
 use Rattle.mp_core_trx.proofs.Lists.{total_same}
+use Rattle.mp_core_trx.proofs.Sight.{greatest_at_load}
 use Rattle.mp_core_trx.proofs.SlotWords.{two_tags}
 use Rattle.mp_core_trx.proofs.Keeps.{keeps_inv}
 use Rattle.mp_core_trx.proofs.Bounds.{none_drawn_by_nobody, clock_within}
@@ -72,7 +73,12 @@ pub clock_exact : (o : TrxOpening) (w : TrxWorld) → Inv o w → (held : ℕ �
 clock_exact o w i held agrees all =
     let each : (n : ℕ) → n < o.primaries + 1 → length (drawn_in w n) ≡ drawn_by (held n) =
     λ n below.
-        dite (ℕ_discrete n 0)
-        (λ nobody. subst (λ k. length (drawn_in w k) ≡ drawn_by (held k)) (sym nobody) (held_of_nobody o w i (held 0) (agrees 0)))
-        (λ some. let has = all n (omega arith, omega arith) in ap (λ (p : TrxPart). length p.drew) (agrees n has.0 has.1) ∙ ap drawn_by (sym has.1)) in
+    dite (ℕ_discrete n 0)
+    (λ nobody. subst (λ k. length (drawn_in w k) ≡ drawn_by (held k)) (sym nobody) (held_of_nobody o w i (held 0) (agrees 0)))
+    (λ some. let has = all n (omega arith, omega arith) in ap (λ (p : TrxPart). length p.drew) (agrees n has.0 has.1) ∙ ap drawn_by (sym has.1)) in
     i.draws.counted ∙ ap (λ k. o.base.ts + k) (total_same (λ n. length (drawn_in w n)) (λ n. drawn_by (held n)) (o.primaries + 1) each)
+
+-- the view of a transaction that begins after a load of the oracle is the oracle as it was loaded
+pub newest_after_load : (o : TrxOpening) (w : TrxWorld) → Inv o w → (n : ℕ) → newest (part_after w (LoadTso n)) ≡ w.clock
+newest_after_load o w i n =
+    ap (λ (x : TrxOpening). greatest x.base.ts (w.clock ∷ seen_in w n)) (i.carried n) ∙ greatest_at_load o.base.ts w.clock (begun_in w) (seen_in w) (loaded_in w) i.sight n

@@ -1,19 +1,18 @@
 -- The transactions are a machine: two places do not lie in one word, and an event changes its own word and part alone.
-use Rattle.std.proofs.Common.{◌≡◌, ℕ, ◌+◌, ◌-◌, ◌*◌, ◌<◌, ◌≤◌, ◌⊎◌, List, [], ◌∷◌, refl, sym, ap, ◌∙◌, subst, ⊎_elim, arith}
+use Rattle.std.proofs.Common.{◌≡◌, ◌<◌, ℕ, refl, ap, ◌∙◌, ⊎_elim, arith}
 use Rattle.mp_machine.specs.Machine.{run}
 use Rattle.mp_machine.specs.Rule.{Laws}
 use Rattle.mp_model.specs.declared.ids.TrxId.{TrxId}
 use Rattle.mp_core_trx.specs.declared.opening.TrxOpening.{TrxOpening}
 use Rattle.mp_core_trx.specs.declared.slot.SlotTag.TheVariants.{Active, Prep}
 use Rattle.mp_core_trx.specs.declared.slot.Shown.{Shown}
-use Rattle.mp_core_trx.specs.declared.part.TrxPart.{TrxPart}
 use Rattle.mp_core_trx.specs.declared.event.TrxEvent.{TrxEvent}
 use Rattle.mp_core_trx.specs.declared.event.TrxEvent.TheVariants.{LoadTso, StoreActive, StorePrep, DrawTso, StoreEnd, LoadTit}
 use Rattle.mp_core_trx.specs.Lists.{pushed}
 use Rattle.mp_core_trx.specs.Words.{shows, word_of}
 use Rattle.mp_core_trx.specs.Parts.{shown_at}
-use Rattle.mp_core_trx.specs.Events.{Place, tso, tit, IsPlace, index, node_of, place_of, ended, row_of, word_after, made}
-use Rattle.mp_core_trx.specs.World.{TrxWorld, content, part_after, after, transactions, rows_in}
+use Rattle.mp_core_trx.specs.Events.{Place, tso, tit, IsPlace, index, region, node_of, place_of, ended, row_of, word_after}
+use Rattle.mp_core_trx.specs.World.{TrxWorld, IsFair, content, part_after, after, transactions, rows_in}
 use Rattle.mp_core_trx.proofs.Lists.{updated_here, updated_else}
 use Rattle.mp_core_trx.proofs.Frames.{rows_after, rows_are}
 use Rattle.mp_core_trx.proofs.SlotWords.{shown_here, shown_pushed}
@@ -26,6 +25,10 @@ index_apart o (tit n s) (tit m t) x y e =
     let node : n ≡ m = omega arith in
     let slot : s ≡ t = omega arith in
     λ i. tit (node i) (slot i)
+
+pub index_within : (o : TrxOpening) → IsFair o → (a : Place) → IsPlace o a → index a < region
+index_within o fair tso x = omega arith
+index_within o fair (tit n s) x = let most = fair.some_primaries.1 in omega arith
 
 pub part_here : (w : TrxWorld) (e : TrxEvent) → (after w e).part (node_of e) ≡ part_after w e
 part_here w e = updated_here w.part (node_of e) (part_after w e)

@@ -1,21 +1,20 @@
 -- What a node loaded of a slot stays reliable, and its word is what the slot shows.
-use Rattle.std.proofs.Common.{◌≡◌, ℕ, ◌+◌, ◌^◌, ◌<◌, ◌≤◌, ◌⊎◌, List, [], ◌∷◌, refl, sym, ap, ◌∙◌, subst, inl, inr, ⊎_elim, arith}
+use Rattle.std.proofs.Common.{◌≡◌, ℕ, ◌+◌, ◌^◌, ◌<◌, ◌⊎◌, List, refl, sym, ap, ◌∙◌, subst, inl, inr, ⊎_elim, arith}
 use Rattle.mp_model.specs.declared.ids.TrxId.{TrxId}
 use Rattle.mp_core_trx.specs.declared.opening.TrxOpening.{TrxOpening}
-use Rattle.mp_core_trx.specs.declared.slot.SlotTag.TheVariants.{Free, Active, Prep, Committed}
+use Rattle.mp_core_trx.specs.declared.slot.SlotTag.TheVariants.{Active}
 use Rattle.mp_core_trx.specs.declared.slot.Shown.{Shown}
 use Rattle.mp_core_trx.specs.declared.part.Begun.{Begun}
-use Rattle.mp_core_trx.specs.declared.part.SlotRow.{SlotRow}
 use Rattle.mp_core_trx.specs.declared.part.Draw.{Draw}
 use Rattle.mp_core_trx.specs.declared.part.SlotLoad.{SlotLoad}
 use Rattle.mp_core_trx.specs.Lists.{IsIn, pushed}
 use Rattle.mp_core_trx.specs.Words.{shows, word_of, shown_of}
-use Rattle.mp_core_trx.specs.Parts.{trx, begin_of, draw_of, unused, shown_at, HasBegun, greatest}
+use Rattle.mp_core_trx.specs.Parts.{trx, begin_of, draw_of, unused, HasBegun}
 use Rattle.mp_core_trx.specs.Events.{load_of}
 use Rattle.mp_core_trx.specs.World.{IsFair}
-use Rattle.mp_core_trx.specs.Invariant.{Ids, Sight, IsRight, Slots, IsReliable, Loads}
+use Rattle.mp_core_trx.specs.Invariant.{Ids, Sight, IsRight, IsReliable, Loads}
 use Rattle.mp_core_trx.proofs.Lists.{in_pushed, in_more, each_pushed}
-use Rattle.mp_core_trx.proofs.Words.{shown_again, word_fits}
+use Rattle.mp_core_trx.proofs.Words.{shown_again}
 use Rattle.mp_core_trx.proofs.Ids.{begun_more}
 use Rattle.mp_core_trx.proofs.Sight.{greatest_drawn}
 use Rattle.mp_core_trx.proofs.SlotWords.{two_tags}

@@ -1,5 +1,5 @@
 -- What a slot shows stays right: as it is stored, as a transaction begins, as one draws.
-use Rattle.std.proofs.Common.{◌≡◌, ℕ, ◌+◌, ◌^◌, ◌<◌, ◌≤◌, ◌==◌, ◌⊎◌, List, [], ◌∷◌, if◌then◌else◌, refl, sym, ap, ◌∙◌, subst, inl, inr, ⊎_elim, arith, eq-eqb, ne_eqb}
+use Rattle.std.proofs.Common.{◌≡◌, ℕ, ◌⊎◌, List, ◌∷◌, if◌then◌else◌, refl, sym, ap, ◌∙◌, subst, inl, inr, ⊎_elim, arith, eq-eqb, ne_eqb}
 use mathlib.Core.Logic.{dite}
 use native.Mathlib.Decide.{ℕ_discrete}
 use Rattle.mp_model.specs.declared.ids.TrxId.{TrxId}
@@ -13,10 +13,9 @@ use Rattle.mp_core_trx.specs.Lists.{IsIn, pushed}
 use Rattle.mp_core_trx.specs.Words.{tag_number, shows}
 use Rattle.mp_core_trx.specs.Parts.{trx, begin_of, draw_of, unused, shown_at, Shows, HasBegun, HasDrawnNothing}
 use Rattle.mp_core_trx.specs.Events.{row_of}
-use Rattle.mp_core_trx.specs.World.{IsFair}
-use Rattle.mp_core_trx.specs.Invariant.{Ids, Drawers, IsRight, Slots, SlotsUsedOnce}
+use Rattle.mp_core_trx.specs.Invariant.{Ids, IsRight, Slots, SlotsUsedOnce}
 use Rattle.mp_core_trx.proofs.Lists.{in_pushed, in_more, pushed_here, pushed_else}
-use Rattle.mp_core_trx.proofs.Ids.{begun_more, begun_new, begun_cases, same_id, as_trx}
+use Rattle.mp_core_trx.proofs.Ids.{begun_more, begun_cases, same_id, as_trx}
 
 -- two tags with different numbers are not shown at once
 pub two_tags : {P : Type 0} (x y : Shown) → x ≡ y → ¬ (tag_number x.tag ≡ tag_number y.tag) → P

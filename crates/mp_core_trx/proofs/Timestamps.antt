@@ -1,5 +1,5 @@
 -- A draw gives the next timestamp, to a transaction that had none.
-use Rattle.std.proofs.Common.{◌≡◌, ℕ, ◌+◌, ◌<◌, ◌≤◌, ◌⊎◌, List, ◌∷◌, refl, sym, ap, ◌∙◌, subst, inl, inr, ⊎_elim, arith}
+use Rattle.std.proofs.Common.{◌≡◌, ℕ, ◌+◌, ◌<◌, ◌≤◌, List, refl, sym, ap, ◌∙◌, subst, ⊎_elim, arith}
 use mathlib.Core.Logic.{dite}
 use native.Mathlib.Decide.{ℕ_discrete}
 use Rattle.mp_model.specs.declared.ids.TrxId.{TrxId}
@@ -10,7 +10,7 @@ use Rattle.mp_core_trx.specs.Lists.{IsIn, pushed}
 use Rattle.mp_core_trx.specs.Parts.{draw_of, HasBegun, HasDrawnNothing}
 use Rattle.mp_core_trx.specs.Events.{IsNode}
 use Rattle.mp_core_trx.specs.Invariant.{Ids, Draws, Drawers}
-use Rattle.mp_core_trx.proofs.Lists.{in_pushed, in_more, in_new, each_pushed, differ_pushed, total_length_pushed}
+use Rattle.mp_core_trx.proofs.Lists.{in_pushed, in_more, in_new, each_pushed, differ_pushed, same_item, total_length_pushed}
 use Rattle.mp_core_trx.proofs.Ids.{begun_more, same_id}
 
 pub draws_draw : (o : TrxOpening) (clock : ℕ) (drew : ℕ → List Draw) (n : ℕ) (id : TrxId) → Draws o clock drew → IsNode o n → Draws o (clock + 1) (pushed drew n (draw_of id (clock + 1)))
@@ -55,3 +55,7 @@ drawers_begin begun drew n b d = record { had_begun = λ k x h. begun_more begun
 -- who hasn't begun has drawn nothing
 pub fresh_drew_nothing : (begun : ℕ → List Begun) (drew : ℕ → List Draw) (n : ℕ) (id : TrxId) → Drawers begun drew → ((b : Begun) → IsIn b (begun n) → ¬ (b.id.version ≡ id.version)) → HasDrawnNothing (drew n) id
 fresh_drew_nothing begun drew n id d fresh cts h = let was = d.had_begun n (draw_of id cts) h in fresh record { id = id; view = was.0 } was.1 refl
+
+-- a transaction has at most one timestamp
+pub one_timestamp : (begun : ℕ → List Begun) (drew : ℕ → List Draw) → Drawers begun drew → (n : ℕ) (id : TrxId) (a b : ℕ) → IsIn (draw_of id a) (drew n) → IsIn (draw_of id b) (drew n) → a ≡ b
+one_timestamp begun drew d n id a b h k = ap (λ (x : Draw). x.cts) (same_item (λ (x : Draw). x.id.version) (drew n) (d.once n) (draw_of id a) (draw_of id b) h k refl)

@@ -1,9 +1,9 @@
 -- A slot's word and what it shows are one and the same.
-use Rattle.std.proofs.Common.{◌≡◌, ℕ, zero, suc, ◌+◌, ◌*◌, ◌/◌, ◌%◌, ◌^◌, ◌<◌, ◌≤◌, refl, ap, ◌∙◌, arith}
+use Rattle.std.proofs.Common.{◌≡◌, ℕ, zero, suc, ◌/◌, ◌%◌, ◌^◌, ◌<◌, refl, ap, ◌∙◌, arith}
 use Rattle.mp_core_trx.specs.declared.slot.SlotTag.{SlotTag}
 use Rattle.mp_core_trx.specs.declared.slot.SlotTag.TheVariants.{Free, Active, Prep, Committed}
 use Rattle.mp_core_trx.specs.declared.slot.Shown.{Shown}
-use Rattle.mp_core_trx.specs.Words.{tag_number, tag_of, shows, word_of, shown_of}
+use Rattle.mp_core_trx.specs.Words.{tag_number, tag_of, word_of, shown_of}
 
 pub tag_number-below : (tag : SlotTag) → tag_number tag < 4
 tag_number-below Free = omega arith

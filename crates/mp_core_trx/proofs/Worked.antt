@@ -3,15 +3,15 @@ use Rattle.std.proofs.Common.{◌≡◌, ℕ, ◌+◌, ◌^◌, List, [], ◌∷
 use Rattle.mp_model.specs.declared.ids.TrxId.{TrxId}
 use Rattle.mp_machine.specs.Machine.{AllowedFrom, run_from}
 use Rattle.mp_core_trx.specs.declared.opening.TrxOpening.{TrxOpening}
-use Rattle.mp_core_trx.specs.declared.slot.SlotTag.TheVariants.{Free, Active, Prep, Committed}
+use Rattle.mp_core_trx.specs.declared.slot.SlotTag.TheVariants.{Active, Prep}
 use Rattle.mp_core_trx.specs.declared.part.Draw.{Draw}
 use Rattle.mp_core_trx.specs.declared.event.TrxEvent.{TrxEvent}
 use Rattle.mp_core_trx.specs.declared.event.TrxEvent.TheVariants.{LoadTso, StoreActive, StorePrep, DrawTso, StoreEnd, LoadTit}
 use Rattle.mp_core_trx.specs.declared.slot.Shown.{Shown}
-use Rattle.mp_core_trx.specs.Words.{shows, shown_of, word_of}
+use Rattle.mp_core_trx.specs.Words.{shows, shown_of}
 use Rattle.mp_core_trx.specs.Parts.{trx, begin_of, draw_of}
 use Rattle.mp_core_trx.specs.Events.{tso, tit, IsNode, Allowed}
-use Rattle.mp_core_trx.specs.World.{TrxWorld, content, start, after, transactions}
+use Rattle.mp_core_trx.specs.World.{TrxWorld, content, start, transactions}
 
 -- two primaries, a base of zeros
 abbrev two : TrxOpening
@@ -60,15 +60,28 @@ second_is_node = (lit≤ tt, lit≤ tt)
 
 -- each of these steps may come
 may_come : AllowedFrom (transactions two) (start two) published
-may_come =
-    (([], (first_is_node, tt)),
-    (([], (first_is_node, record { own = refl; above = lit< tt; within = lit≤ tt; fresh = λ b h. absurd h; in_range = lit< tt; usable = refl })),
-    (([], (first_is_node, ((0, inl refl), refl))),
-    (([], (first_is_node, ((0, inl refl), refl, λ cts h. h))),
-    (([], (first_is_node, (((0, inl refl), inr refl), inl refl))),
-    (([], (second_is_node, (first_is_node, lit< tt))),
-    (([], (second_is_node, tt)),
-    tt)))))))
+may_come = (
+  ([], (first_is_node, tt)),
+  (
+    ([], (first_is_node, record { own = refl; above = lit< tt; within = lit≤ tt; fresh = λ b h. absurd h; in_range = lit< tt; usable = refl })),
+    (
+      ([], (first_is_node, ((0, inl refl), refl))),
+      (
+        ([], (first_is_node, ((0, inl refl), refl, λ cts h. h))),
+        (
+          ([], (first_is_node, (((0, inl refl), inr refl), inl refl))),
+          (
+            ([], (second_is_node, (first_is_node, lit< tt))),
+            (
+              ([], (second_is_node, tt)),
+              tt,
+            ),
+          ),
+        ),
+      ),
+    ),
+  ),
+)
 
 apart : Active ≡ Prep → ⊥
 apart e = cc
@@ -86,14 +99,14 @@ no_second_draw h = h.1.2 1 (inl refl)
 
 -- nor a timestamp published that another drew, or none where one was drawn
 no_foreign_timestamp : Allowed ((to drawn).part 1) (StoreEnd 1 first (Some 2)) → ⊥
-no_foreign_timestamp h = ⊎_elim (λ (e : draw_of first 2 ≡ draw_of first 1). let c : 2 ≡ 1 = ap (λ (d : Draw). d.cts) e in absurd (omega arith)) (λ (none : ⊥). none) h.1.1
+no_foreign_timestamp h = ⊎_elim (λ (e : draw_of first 2 ≡ draw_of first 1). let c : ◌≡◌ {A = ℕ} 2 1 = ap (λ (d : Draw). d.cts) e in absurd (omega arith)) (λ (none : ⊥). none) h.1.1
 
 no_end_without : Allowed ((to drawn).part 1) (StoreEnd 1 first None) → ⊥
 no_end_without h = h.1.1 1 (inl refl)
 
 -- no slot is taken twice, and no version
 no_slot_twice : Allowed ((to published).part 1) (StoreActive 1 (trx 1 0 2)) → ⊥
-no_slot_twice h = let v : 1 ≡ 0 = ap (λ (x : Shown). x.version) h.1.usable in absurd (omega arith)
+no_slot_twice h = let v : ◌≡◌ {A = ℕ} 1 0 = ap (λ (x : Shown). x.version) h.1.usable in absurd (omega arith)
 
 no_version_twice : Allowed ((to published).part 1) (StoreActive 1 (trx 1 1 1)) → ⊥
 no_version_twice h = h.1.fresh (begin_of first 0) (inl refl) refl

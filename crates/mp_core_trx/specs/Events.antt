@@ -1,5 +1,5 @@
 -- The steps: who makes one, on which word, what becomes of the word and of the node's part, and when it may come.
-use Rattle.std.specs.Prelude.{◌≡◌, ℕ, ◌+◌, ◌-◌, ◌*◌, ◌<◌, ◌≤◌, Option, None, Some, ◌⊎◌, List, [], ◌∷◌}
+use Rattle.std.specs.Prelude.{◌≡◌, ℕ, ◌+◌, ◌-◌, ◌*◌, ◌<◌, ◌≤◌, Option, None, Some, ◌∷◌}
 use Rattle.mp_model.specs.declared.ids.TrxId.{TrxId}
 use Rattle.mp_core_trx.specs.declared.opening.TheConstants.{SLOTS}
 use Rattle.mp_core_trx.specs.declared.opening.TrxOpening.{TrxOpening}
@@ -32,6 +32,10 @@ IsPlace opening (tit n slot) = IsNode opening n × (slot < SLOTS)
 abbrev pub index : Place → ℕ
 index tso = 0
 index (tit n slot) = 1 + ((n - 1) * SLOTS + slot)
+
+-- how many words these are: of 8 nodes, whether there are so many or not
+abbrev pub region : ℕ
+region = 1 + 8 * SLOTS
 
 abbrev pub node_of : TrxEvent → ℕ
 node_of (LoadTso n) = n

@@ -1,5 +1,5 @@
 -- All nodes together, and the abstract machine that they are.
-use Rattle.std.specs.Prelude.{◌≡◌, ℕ, ◌+◌, ◌*◌, ◌^◌, ◌<◌, ◌≤◌, List, []}
+use Rattle.std.specs.Prelude.{ℕ, ◌+◌, ◌*◌, ◌^◌, ◌<◌, ◌≤◌, List, []}
 use Rattle.atomic_table.specs.Table.{keeps}
 use Rattle.mp_machine.specs.Machine.{Machine}
 use Rattle.mp_core_trx.specs.declared.opening.TrxOpening.{TrxOpening}

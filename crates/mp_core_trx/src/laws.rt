@@ -11,5 +11,4 @@ ghost use Rattle.mp_core_trx.specs.Invariant.{Inv};
 pub fn law_trx_inv()
     ensures kept { (opening : TrxOpening) (events : List TrxEvent) → IsFair opening → AllowedFrom (transactions opening) (start opening) events → Inv opening (run_from (transactions opening) (start opening) events) }
     ensures bounded { (opening : TrxOpening) (events : List TrxEvent) → IsFair opening → AllowedFrom (transactions opening) (start opening) events → (run_from (transactions opening) (start opening) events).clock ≤ opening.base.ts + 8 * opening.begins }
-{
-}
+{}

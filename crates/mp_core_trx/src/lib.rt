@@ -13,3 +13,6 @@ pub use laws::law_trx_inv;
 pub use opening::{Base, SLOTS, TrxOpening};
 pub use part::{Begun, Draw, SlotLoad, SlotRow, TrxPart};
 pub use slot::{Shown, SlotTag};
+
+#[cfg(test)]
+mod tests;
