@@ -1,5 +1,5 @@
 -- The transactions are a machine: two places do not lie in one word, and an event changes its own word and part alone.
-use Rattle.std.proofs.Common.{◌≡◌, ◌<◌, ℕ, refl, ap, ◌∙◌, ⊎_elim, arith}
+use Rattle.std.proofs.Common.{◌≡◌, ◌<◌, ℕ, refl, subst, ap, ◌∙◌, ⊎_elim, arith}
 use Rattle.mp_machine.specs.Machine.{run}
 use Rattle.mp_machine.specs.Rule.{Laws}
 use Rattle.mp_model.specs.declared.ids.TrxId.{TrxId}
@@ -10,9 +10,10 @@ use Rattle.mp_core_trx.specs.declared.event.TrxEvent.{TrxEvent}
 use Rattle.mp_core_trx.specs.declared.event.TrxEvent.TheVariants.{LoadTso, StoreActive, StorePrep, DrawTso, StoreEnd, LoadTit}
 use Rattle.mp_core_trx.specs.Lists.{pushed}
 use Rattle.mp_core_trx.specs.Words.{shows, word_of}
-use Rattle.mp_core_trx.specs.Parts.{shown_at}
-use Rattle.mp_core_trx.specs.Events.{Place, tso, tit, IsPlace, index, region, node_of, place_of, ended, row_of, word_after}
-use Rattle.mp_core_trx.specs.World.{TrxWorld, IsFair, content, part_after, after, transactions, rows_in}
+use Rattle.mp_core_trx.specs.Parts.{begin_of, shown_at, HasBegun}
+use Rattle.mp_core_trx.specs.Events.{Place, tso, tit, IsNode, IsPlace, Allowed, index, region, node_of, place_of, ended, row_of, word_after}
+use Rattle.mp_core_trx.specs.World.{TrxWorld, IsFair, content, part_after, after, transactions, begun_in, rows_in}
+use Rattle.mp_core_trx.specs.Invariant.{Inv}
 use Rattle.mp_core_trx.proofs.Lists.{updated_here, updated_else}
 use Rattle.mp_core_trx.proofs.Frames.{rows_after, rows_are}
 use Rattle.mp_core_trx.proofs.SlotWords.{shown_here, shown_pushed}
@@ -29,6 +30,18 @@ index_apart o (tit n s) (tit m t) x y e =
 pub index_within : (o : TrxOpening) → IsFair o → (a : Place) → IsPlace o a → index a < region
 index_within o fair tso x = omega arith
 index_within o fair (tit n s) x = let most = fair.some_primaries.1 in omega arith
+
+begun_slot : (o : TrxOpening) (w : TrxWorld) → Inv o w → (n : ℕ) (id : TrxId) → IsNode (w.part n).opening n → HasBegun (begun_in w n) id → IsPlace o (tit n id.slot)
+begun_slot o w i n id is has = (subst (λ (x : TrxOpening). IsNode x n) (i.carried n) is, i.ids.slots n (begin_of id has.0) has.1)
+
+-- the word of an event that may come is one of the words
+pub placed : (o : TrxOpening) (w : TrxWorld) → Inv o w → (e : TrxEvent) → Allowed (w.part (node_of e)) e → IsPlace o (place_of e)
+placed o w i (LoadTso n) may = tt
+placed o w i (StoreActive n id) may = (subst (λ (x : TrxOpening). IsNode x n) (i.carried n) may.0, may.1.in_range)
+placed o w i (StorePrep n id) may = begun_slot o w i n id may.0 may.1.0
+placed o w i (DrawTso n id) may = tt
+placed o w i (StoreEnd n id cts) may = begun_slot o w i n id may.0 may.1.0.0
+placed o w i (LoadTit n whose slot) may = (subst (λ (x : TrxOpening). IsNode x whose) (i.carried n) may.1.0, may.1.1)
 
 pub part_here : (w : TrxWorld) (e : TrxEvent) → (after w e).part (node_of e) ≡ part_after w e
 part_here w e = updated_here w.part (node_of e) (part_after w e)
