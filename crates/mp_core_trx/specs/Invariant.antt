@@ -58,7 +58,7 @@ pub record IsRight (n slot : ℕ) (begun : List Begun) (drew : List Draw) (x : S
 abbrev pub Slots : (ℕ → List Begun) → (ℕ → List Draw) → (ℕ → List SlotRow) → Type 0
 Slots begun drew rows = (n slot : ℕ) → IsRight n slot (begun n) (drew n) (shown_at (rows n) slot)
 
--- the slot of each transaction shows its version: no slot is used twice
+-- the slot of each transaction shows its version, since no slot is used twice
 abbrev pub SlotsUsedOnce : (ℕ → List Begun) → (ℕ → List SlotRow) → Type 0
 SlotsUsedOnce begun rows = (n : ℕ) (id : TrxId) → HasBegun (begun n) id → (shown_at (rows n) id.slot).version ≡ id.version
 
@@ -68,12 +68,14 @@ pub record IsReliable (begun : List Begun) (drew : List Draw) (l : SlotLoad) : T
   pub active : (version cts : ℕ) → shown_of l.word ≡ shows Active version 0 → IsIn (draw_of (trx l.of l.slot version) cts) drew → l.after < cts
   -- one that was COMMITTED drew that timestamp
   pub committed : (version cts : ℕ) → shown_of l.word ≡ shows Committed version cts → IsIn (draw_of (trx l.of l.slot version) cts) drew
+  -- the word showed a slot that was never used, or a transaction that was begun
   pub known : (shown_of l.word ≡ unused) ⊎ HasBegun begun (trx l.of l.slot (shown_of l.word).version)
 
+-- each word that was loaded may be relied on
 abbrev pub Loads : (ℕ → List Begun) → (ℕ → List Draw) → (ℕ → List SlotLoad) → Type 0
 Loads begun drew loaded = (n : ℕ) (l : SlotLoad) → IsIn l (loaded n) → IsReliable (begun l.of) (drew l.of) l
 
--- all of it
+-- All of it, over the oracle and the components of the parts, each by node
 pub record Holds (opening : TrxOpening) (clock : ℕ) (openings : ℕ → TrxOpening) (begun : ℕ → List Begun) (rows : ℕ → List SlotRow) (drew : ℕ → List Draw) (seen : ℕ → List ℕ) (loaded : ℕ → List SlotLoad) : Type 0 where
   pub carried : (n : ℕ) → openings n ≡ opening
   pub ids : Ids opening begun
@@ -84,6 +86,6 @@ pub record Holds (opening : TrxOpening) (clock : ℕ) (openings : ℕ → TrxOpe
   pub once : SlotsUsedOnce begun rows
   pub reliable : Loads begun drew loaded
 
--- the invariant
+-- the invariant: what holds wherever allowed events lead
 abbrev pub Inv : TrxOpening → TrxWorld → Type 0
 Inv opening w = Holds opening w.clock (openings_in w) (begun_in w) (rows_in w) (drawn_in w) (seen_in w) (loaded_in w)

@@ -12,6 +12,7 @@ use Rattle.mp_core_trx.specs.declared.part.TrxPart.{TrxPart}
 use Rattle.mp_core_trx.specs.Lists.{IsIn, Grows, total}
 use Rattle.mp_core_trx.specs.Words.{shows}
 
+-- ids, begins and draws from their fields
 abbrev pub trx : ℕ → ℕ → ℕ → TrxId
 trx node slot version = record { node = node; slot = slot; version = version }
 
