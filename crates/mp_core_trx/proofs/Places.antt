@@ -1,5 +1,5 @@
 -- The transactions are a machine: two places do not lie in one word, and an event changes its own word and part alone.
-use Rattle.std.proofs.Common.{◌≡◌, ◌<◌, ℕ, refl, subst, ap, ◌∙◌, ⊎_elim, arith}
+use Rattle.std.proofs.Common.{◌≡◌, ◌<◌, ◌≤◌, ℕ, refl, subst, ap, ◌∙◌, ⊎_elim, arith}
 use Rattle.mp_machine.specs.Machine.{run}
 use Rattle.mp_machine.specs.Rule.{Laws}
 use Rattle.mp_model.specs.declared.ids.TrxId.{TrxId}
@@ -18,30 +18,35 @@ use Rattle.mp_core_trx.proofs.Lists.{updated_here, updated_else}
 use Rattle.mp_core_trx.proofs.Frames.{rows_after, rows_are}
 use Rattle.mp_core_trx.proofs.SlotWords.{shown_here, shown_pushed}
 
-pub index_apart : (o : TrxOpening) (a b : Place) → IsPlace o a → IsPlace o b → index a ≡ index b → a ≡ b
-index_apart o tso tso x y e = refl
-index_apart o tso (tit m t) x y e = absurd (omega arith)
-index_apart o (tit n s) tso x y e = absurd (omega arith)
-index_apart o (tit n s) (tit m t) x y e =
+pub index_apart : (a b : Place) → IsPlace a → IsPlace b → index a ≡ index b → a ≡ b
+index_apart tso tso x y e = refl
+index_apart tso (tit m t) x y e = absurd (omega arith)
+index_apart (tit n s) tso x y e = absurd (omega arith)
+index_apart (tit n s) (tit m t) x y e =
     let node : n ≡ m = omega arith in
     let slot : s ≡ t = omega arith in
     λ i. tit (node i) (slot i)
 
-pub index_within : (o : TrxOpening) → IsFair o → (a : Place) → IsPlace o a → index a < region
-index_within o fair tso x = omega arith
-index_within o fair (tit n s) x = let most = fair.some_primaries.1 in omega arith
+-- the words lie together, from the first on
+pub index_within : (a : Place) → IsPlace a → index a < region
+index_within tso x = omega arith
+index_within (tit n s) x = omega arith
 
-begun_slot : (o : TrxOpening) (w : TrxWorld) → Inv o w → (n : ℕ) (id : TrxId) → IsNode (w.part n).opening n → HasBegun (begun_in w n) id → IsPlace o (tit n id.slot)
-begun_slot o w i n id is has = (subst (λ (x : TrxOpening). IsNode x n) (i.carried n) is, i.ids.slots n (begin_of id has.0) has.1)
+module _ (o : TrxOpening) (fair : IsFair o) (w : TrxWorld) (i : Inv o w) where
+  node_within : (n m : ℕ) → IsNode (w.part n).opening m → (1 ≤ m) × (m ≤ 8)
+  node_within n m is = let own = subst (λ (x : TrxOpening). IsNode x m) (i.carried n) is in let most = fair.some_primaries.1 in (own.0, omega arith)
 
--- the word of an event that may come is one of the words
-pub placed : (o : TrxOpening) (w : TrxWorld) → Inv o w → (e : TrxEvent) → Allowed (w.part (node_of e)) e → IsPlace o (place_of e)
-placed o w i (LoadTso n) may = tt
-placed o w i (StoreActive n id) may = (subst (λ (x : TrxOpening). IsNode x n) (i.carried n) may.0, may.1.in_range)
-placed o w i (StorePrep n id) may = begun_slot o w i n id may.0 may.1.0
-placed o w i (DrawTso n id) may = tt
-placed o w i (StoreEnd n id cts) may = begun_slot o w i n id may.0 may.1.0.0
-placed o w i (LoadTit n whose slot) may = (subst (λ (x : TrxOpening). IsNode x whose) (i.carried n) may.1.0, may.1.1)
+  begun_slot : (n : ℕ) (id : TrxId) → IsNode (w.part n).opening n → HasBegun (begun_in w n) id → IsPlace (tit n id.slot)
+  begun_slot n id is has = let node = node_within n n is in (node.0, node.1, i.ids.slots n (begin_of id has.0) has.1)
+
+  -- the word of an event that may come is one of the words
+  pub placed : (e : TrxEvent) → Allowed (w.part (node_of e)) e → IsPlace (place_of e)
+  placed (LoadTso n) may = tt
+  placed (StoreActive n id) may = let node = node_within n n may.0 in (node.0, node.1, may.1.in_range)
+  placed (StorePrep n id) may = begun_slot n id may.0 may.1.0
+  placed (DrawTso n id) may = tt
+  placed (StoreEnd n id cts) may = begun_slot n id may.0 may.1.0.0
+  placed (LoadTit n whose slot) may = let node = node_within n whose may.1.0 in (node.0, node.1, may.1.1)
 
 pub part_here : (w : TrxWorld) (e : TrxEvent) → (after w e).part (node_of e) ≡ part_after w e
 part_here w e = updated_here w.part (node_of e) (part_after w e)
@@ -87,7 +92,7 @@ content_else w (LoadTit n whose slot) (tit k s) d = slot_word w (LoadTit n whose
 
 pub laws : (o : TrxOpening) → Laws (transactions o)
 laws o = record {
-  apart = index_apart o;
+  apart = index_apart;
   part_here = λ es e all. part_here (run (transactions o) es) e;
   part_else = λ es e all. part_else (run (transactions o) es) e;
   content_here = λ es e all. content_here (run (transactions o) es) e;

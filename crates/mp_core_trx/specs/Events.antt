@@ -24,16 +24,17 @@ pub data Place : Type 0 where
 abbrev pub IsNode : TrxOpening → ℕ → Type 0
 IsNode opening n = (1 ≤ n) × (n ≤ opening.primaries)
 
-abbrev pub IsPlace : TrxOpening → Place → Type 0
-IsPlace opening tso = Unit {0}
-IsPlace opening (tit n slot) = IsNode opening n × (slot < SLOTS)
+-- the words of 8 nodes are there, whether there are so many nodes or not
+abbrev pub IsPlace : Place → Type 0
+IsPlace tso = Unit {0}
+IsPlace (tit n slot) = (1 ≤ n) × (n ≤ 8) × (slot < SLOTS)
 
 -- where a word lies
 abbrev pub index : Place → ℕ
 index tso = 0
 index (tit n slot) = 1 + ((n - 1) * SLOTS + slot)
 
--- how many words these are: of 8 nodes, whether there are so many or not
+-- how many words these are
 abbrev pub region : ℕ
 region = 1 + 8 * SLOTS
 
