@@ -6,3 +6,5 @@ pub mod InPlace
 pub mod NumberBytes
 pub mod PageRanges
 pub mod RowSpelling
+pub mod SmallTrees
+pub mod TreeSearch

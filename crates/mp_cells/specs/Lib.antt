@@ -7,3 +7,4 @@ pub mod ChildCell
 pub mod PageView
 pub mod Changes
 pub mod Mtrs
+pub mod Trees

@@ -14,6 +14,7 @@ mod records;
 mod row_bytes;
 mod row_cells;
 mod rows;
+mod trees;
 
 pub use changes::{Change, NotApplicable};
 pub use child_bytes::{child_of, read_child, write_child};
@@ -26,6 +27,7 @@ pub use records::{Mtr, Record, Records};
 pub use row_bytes::{read_row, row_of, write_row};
 pub use row_cells::RowCells;
 pub use rows::{Link, Row};
+pub use trees::law_tree_search;
 
 #[cfg(test)]
 mod tests;

@@ -1,6 +1,6 @@
 //! The records of a log.
 
-ghost use Rattle.std.specs.Prelude.{◌≡◌, ◌<◌, [], ◌∷◌, ◌++◌, length, slice_get, Some, IfOk};
+ghost use Rattle.std.specs.Prelude.{◌≡◌, ◌<◌, ◌≤◌, [], ◌∷◌, ◌++◌, length, slice_get, Some, IfOk};
 
 use crate::changes::Change;
 use mp_model::{Items, Memory, TrxId};
@@ -36,7 +36,7 @@ impl Model for Records {
 
     ghost view = { λ r. r.items.items };
 
-    ghost invariant = { λ r. 20 ≤ length r.items.items + r.items.spare };
+    ghost invariant = { λ r. (length r.items.items ≤ 20) × (20 ≤ length r.items.items + r.items.spare) };
 }
 
 /// A mini-transaction of a primary (1 to 8): records that are applied together, under one LLSN.
@@ -74,7 +74,8 @@ impl Records {
 
     /// The count of records.
     pub fn len(&self) -> usize
-        ensures { result ≡ length self.now }
+        ensures count { result ≡ length self.now }
+        ensures most { result ≤ 20 }
     {
         self.items.len()
     }

@@ -1,2 +1,4 @@
 pub mod Grammar
 pub mod Shown
+pub mod Pagers
+pub mod LendingPages

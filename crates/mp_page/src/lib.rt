@@ -6,6 +6,8 @@ mod bits;
 mod body;
 mod changing;
 mod page;
+mod pager;
+mod pages;
 mod reading;
 mod writing;
 
@@ -15,6 +17,8 @@ pub use mp_cells::{
     Row, RowCells,
 };
 pub use page::Page;
+pub use pager::Pager;
+pub use pages::Pages;
 pub use reading::read_page;
 pub use writing::write_page;
 

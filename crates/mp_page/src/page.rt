@@ -62,8 +62,10 @@ impl Page {
         Page { llsn, body }
     }
 
+    /// The kind of the page. What is known of every page is handed out here.
     pub fn kind(&self) -> Kind
-        ensures { result ≡ self.now.kind }
+        ensures value { result ≡ self.now.kind }
+        ensures page { IsPage self.now }
     {
         match self.body {
             Body::Blank => Kind::Blank,

@@ -1,4 +1,7 @@
+ghost use Rattle.std.specs.Prelude.{◌<◌};
+
 use super::*;
+use mp_model::NotYet;
 use std::test::*;
 
 // The leaf without rows whose fences are 0 and 2^32, with these bytes changed.
@@ -179,5 +182,60 @@ fn a_changed_page_is_written_and_read(rt: HostRuntime) -> Result<(), Fail> {
     write_page(&page, &mut bytes);
     assert_eq!(rt; bytes, leaf_with(&[(2, 1), (32, 7), (24, 9), (28, 0)]));
     assert_eq!(rt; apply(&mut page, &Change::MakeUndo), Err(NotApplicable));
+    Ok(())
+}
+
+// Hands out the same page for each number, and waits for nothing.
+#[derive(Drop)]
+struct SamePage {
+    page: Page,
+}
+
+impl Pager for SamePage {
+    ghost use Rattle.std.specs.Prelude.{◌≡◌, ℕ, Some, refl};
+    ghost use Rattle.std.proofs.Common.{◌∙◌};
+    ghost use Rattle.mp_model.specs.declared.waiting.WordKind.TheVariants.{Lock};
+
+    ghost handed = { λ p n. Some p.page };
+
+    ghost waits = { λ p. 0 };
+
+    ghost last = { λ p. record { of = Lock; at = 0; seen = 0 } };
+
+    ghost follows = { λ p q. p ≡ q };
+
+    ghost follows_self = { λ p. refl };
+
+    ghost follows_on = { λ p q r h k. h ∙ k };
+
+    fn page(&mut self, _number: u16) -> Result<&Page, NotYet> {
+        Ok(&self.page)
+    }
+}
+
+fn llsn_of<P: Pager>(pager: &mut P, number: u16) -> Option<u64>
+    requires { number < 4096 }
+{
+    match pager.page(number) {
+        Ok(page) => Some(page.llsn()),
+        Err(_) => None,
+    }
+}
+
+#[test]
+fn a_page_is_handed_out(rt: HostRuntime) -> Result<(), Fail> {
+    let page = read_page(&leaf_with(&[(8, 5)])).ok().ok_or("a leaf")?;
+    let mut pager = SamePage { page };
+    assert_eq!(rt; llsn_of(&mut pager, 1), Some(5));
+    Ok(())
+}
+
+#[test]
+fn pages_in_a_list(rt: HostRuntime) -> Result<(), Fail> {
+    let mut pages = Pages::new(rt.alloc());
+    pages.push(Page::blank()).ok().ok_or("there is memory")?;
+    assert_eq!(rt; pages.len(), 1);
+    pages.page_mut(0).set_llsn(7);
+    assert_eq!(rt; pages.get(0).llsn(), 7);
     Ok(())
 }
