@@ -1,3 +1,13 @@
+pub mod StandsAfter
+pub mod Finished
+pub mod NoFault
+pub mod Halfway
+pub mod LinesTaken
+pub mod DraftsGrow
+pub mod LinesBare
+pub mod LineAgain
+pub mod RowsOf
+pub mod Cut
 pub mod Joined
 pub mod Added
 pub mod WordsRead
@@ -10,3 +20,4 @@ pub mod TextsDiffer
 pub mod WordsSpelled
 pub mod RepliesSpelled
 pub mod LinesSpelled
+pub mod Lined

@@ -82,7 +82,7 @@ parts_are_lines : (mode : Mode) (parts : List Part) → HasParts mode parts → 
 parts_are_lines Step parts has are = step_parts_are_lines parts are
 parts_are_lines Run parts has are = run_parts_are_lines parts (primaries_in_order 1 parts (omega arith) (omega (arith, has.1)) has.2) are
 
-lines_are_lines : (t : Transcript) → IsReadable t → list_all is_line (transcript_lines t) ≡ true
+pub lines_are_lines : (t : Transcript) → IsReadable t → list_all is_line (transcript_lines t) ≡ true
 lines_are_lines t is =
     let parts = flat_map (part_lines t.mode) t.parts.items in
     let downs = map down_words t.downs.items in

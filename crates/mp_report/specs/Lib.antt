@@ -5,3 +5,8 @@ pub mod Bare
 pub mod Readable
 pub mod Reading
 pub mod ReadingLines
+pub mod Shown
+pub mod Grammar
+pub mod Drafts
+pub mod Refusals
+pub mod Pages

@@ -58,13 +58,17 @@ read_rows (suc count) (word ∷ words) =
     read_rows count words >>= λ rows.
     Some (row ∷ rows.0, rows.1)
 
+-- what each of the words says, where each says something
+abbrev pub read_all : {A : Type 0} → (List ℕ → Option A) → List (List ℕ) → Option (List A)
+read_all read [] = Some []
+read_all read (word ∷ words) =
+    read word >>= λ item.
+    read_all read words >>= λ items.
+    Some (item ∷ items)
+
 -- each of the words, as a transaction
 abbrev pub read_names : List (List ℕ) → Option (List TrxName)
-read_names [] = Some []
-read_names (word ∷ words) =
-    read_statement word >>= λ name.
-    read_names words >>= λ names.
-    Some (name ∷ names)
+read_names words = read_all read_statement words
 
 -- the first of the words is this one
 abbrev pub is_first : List ℕ → List (List ℕ) → Bool
@@ -117,6 +121,14 @@ read_write verb words =
     else (if is_first (codes "held") words then with_first read_statement (Held verb) (drop 1 words)
     else (if is_first (codes "full") words then after_word (codes "4096") (Full verb) (drop 1 words) else None)))
 
+-- a reply that begins with none of `begin`, `get`, `scan` and `commit`, and the words behind it
+abbrev pub read_other : List ℕ → List (List ℕ) → Option (Reply × List (List ℕ))
+read_other word words =
+    if bytes_eq word (codes "rollback") then after_word (codes "ok") RolledBack words
+    else (if bytes_eq word (codes "skipped") then Some (Skipped, words)
+    else (if bytes_eq word (codes "stopped") then with_first read_primary Stopped words
+    else (read_verb word >>= λ verb. read_write verb words)))
+
 -- a reply and the words behind it
 abbrev pub read_reply : List (List ℕ) → Option (Reply × List (List ℕ))
 read_reply [] = None
@@ -125,10 +137,7 @@ read_reply (word ∷ words) =
     else (if bytes_eq word (codes "get") then read_found words
     else (if bytes_eq word (codes "scan") then read_scan words
     else (if bytes_eq word (codes "commit") then read_commit words
-    else (if bytes_eq word (codes "rollback") then after_word (codes "ok") RolledBack words
-    else (if bytes_eq word (codes "skipped") then Some (Skipped, words)
-    else (if bytes_eq word (codes "stopped") then with_first read_primary Stopped words
-    else (read_verb word >>= λ verb. read_write verb words)))))))
+    else (read_other word words))))
 
 -- the transactions that a statement waited for
 abbrev pub read_waits : List (List ℕ) → Option (List TrxName)

@@ -7,13 +7,18 @@ use Rattle.mp_model.specs.declared.transcripts.Mode.TheVariants.{Step, Run}
 use Rattle.mp_report.specs.declared.lines.Line.{Line}
 use Rattle.mp_report.specs.declared.lines.Line.TheVariants.{Head, Primary, Answered, WentDown, End}
 use Rattle.mp_report.specs.Answers.{answer_words}
+use Rattle.mp_report.specs.Bare.{bare_answer}
 use Rattle.mp_report.specs.Transcripts.{head_words, primary_words, down_words, end_words}
 use Rattle.mp_report.specs.Readable.{IsStamp, IsPrimary, IsAnswer, IsDown}
 use Rattle.mp_report.specs.Reading.{◌>>=◌, read_number, read_stamp, read_primary, read_answer}
 
+-- the words of a line
+abbrev pub words_of : List ℕ → List (List ℕ)
+words_of text = slice_split (λ b. b == 32) text
+
 -- the lines of a text, each as its words; the last one is what stands behind the last byte 10
 abbrev pub lines_of : List ℕ → List (List (List ℕ))
-lines_of text = map (slice_split (λ b. b == 32)) (slice_split (λ b. b == 10) text)
+lines_of text = map words_of (slice_split (λ b. b == 10) text)
 
 abbrev pub read_mode : List ℕ → Option Mode
 read_mode word = if bytes_eq word (codes "step") then Some Step else (if bytes_eq word (codes "run") then Some Run else None)
@@ -65,3 +70,11 @@ IsLine (Primary primary) = IsPrimary primary
 IsLine (Answered answer) = IsAnswer answer
 IsLine (WentDown down) = IsDown down
 IsLine (End commits) = commits < 2 ^ 64
+
+-- the line, whatever free places its lists have
+abbrev pub bare_line : Line → Line
+bare_line (Head mode base) = Head mode base
+bare_line (Primary primary) = Primary primary
+bare_line (Answered answer) = Answered (bare_answer answer)
+bare_line (WentDown down) = WentDown down
+bare_line (End commits) = End commits

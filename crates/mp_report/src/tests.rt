@@ -1,10 +1,13 @@
 //! The texts of a run of each mode, and of each reply.
 
-use crate::print_transcript;
+use crate::pages::{push_child_line, push_row_line};
+use crate::{ReadRefusal, print_page, print_transcript, read_transcript};
+use mp_cells::{Child, Link, Row};
 use mp_model::{
-    Answer, Answers, Down, Downs, KeyValue, Memory, Mode, Names, Part, Parts, Reply, Rows,
-    Transcript, TrxName, Value, WriteVerb,
+    Answer, Answers, Down, Downs, KeyValue, Memory, Mode, Names, Part, Parts, Reply, Rows, Text,
+    Transcript, TrxId, TrxName, Value, WriteVerb,
 };
+use mp_page::read_page;
 use std::alloc::Global;
 use std::test::Fail;
 
@@ -50,6 +53,32 @@ fn one_session_in_steps(rt: HostRuntime) -> Result<(), Fail> {
         print_transcript(alloc, &transcript)?.as_slice(),
         text.as_slice()
     );
+    assert_eq!(rt; read_transcript(alloc, text), Ok(transcript));
+    Ok(())
+}
+
+#[test]
+fn the_first_line_not_allowed_has_its_place(rt: HostRuntime) -> Result<(), Fail> {
+    let alloc = rt.alloc();
+    let table = [
+        ("", 0),
+        ("transcript step base 0\n", 23),
+        ("transcript step base 0\nend commits 0", 23),
+        ("transcript step base 0\nend commits 1\n", 23),
+        ("transcript step base 0\nend commits 0\n\n", 37),
+        (
+            "transcript step base 0\ns1.1 scan 2 1=a\nend commits 0\n",
+            23,
+        ),
+        ("transcript run base 0\nend commits 0\n", 22),
+        ("transcript run base 0\nprimary 1\nprimary 3\n", 32),
+    ];
+    for (text, place) in table {
+        assert_eq!(rt;
+            read_transcript(alloc, text.as_bytes()),
+            Err(ReadRefusal::Place(place))
+        );
+    }
     Ok(())
 }
 
@@ -150,5 +179,65 @@ fn each_reply_has_its_text(rt: HostRuntime) -> Result<(), Fail> {
             expected.as_bytes()
         );
     }
+    Ok(())
+}
+
+// The pages of a fresh store, of which the first 33 bytes say all, and a blank one.
+#[test]
+fn fresh_pages(rt: HostRuntime) -> Result<(), Fail> {
+    let mut root = [0; 1024];
+    root[0] = 2;
+    root[1] = 1;
+    root[28] = 1;
+    let mut meta = [0; 1024];
+    meta[0] = 1;
+    meta[1] = 1;
+    meta[2] = 2;
+    meta[32] = 3;
+    let mut blank = [0; 1024];
+    blank[1] = 1;
+    let rows: [(u16, [u8; 1024], &str); 3] = [
+        (0, meta, "page 0 meta llsn 0 taken 2\n"),
+        (1, root, "page 1 leaf llsn 0 low 0 high 4294967296 rows 0\n"),
+        (9, blank, "page 9 blank llsn 0\n"),
+    ];
+    for (number, bytes, want) in rows {
+        let page = read_page(&bytes).ok().ok_or("a page")?;
+        let text = print_page(rt.alloc(), number, &page)?;
+        assert!(rt; text.as_slice() == want.as_bytes());
+    }
+    Ok(())
+}
+
+// A row of the writer 1.0.7, whose former version is the record 2.3.
+fn written(key: u32, value: Option<Value>) -> Row {
+    Row {
+        key,
+        value,
+        writer: Some(TrxId {
+            node: 1,
+            slot: 0,
+            version: 7,
+        }),
+        link: Some(Link { page: 2, index: 3 }),
+    }
+}
+
+// Rows with and without a writer, a gone one, and a child.
+#[test]
+fn cells_of_pages(rt: HostRuntime) -> Result<(), Fail> {
+    let settled = Row {
+        key: 1,
+        value: Value::read(b"a"),
+        writer: None,
+        link: None,
+    };
+    let mut text = Text::new(rt.alloc());
+    push_row_line(&mut text, &settled)?;
+    push_row_line(&mut text, &written(2, Value::read(b"a")))?;
+    push_row_line(&mut text, &written(4, None))?;
+    push_child_line(&mut text, &Child { low: 9, page: 5 })?;
+    let want = b"row 1 a\nrow 2 a by 1.0.7 undo 2.3\ngone 4 by 1.0.7 undo 2.3\nchild 9 5\n";
+    assert!(rt; text.as_slice() == want.as_slice());
     Ok(())
 }
