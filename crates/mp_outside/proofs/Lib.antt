@@ -1,1 +1,9 @@
 pub mod Given
+pub mod Filled
+pub mod Quiets
+pub mod Overlays
+pub mod Rejoined
+pub mod Writes
+pub mod Images
+pub mod Crashes
+pub mod Moves

@@ -24,6 +24,11 @@ passed calls = record { fail = calls.fail; made = one_more calls.made; faults = 
 abbrev pub faulted : Calls → Calls
 faulted calls = record { fail = calls.fail; made = one_more calls.made; faults = one_more calls.faults }
 
+-- after one more call with this result
+abbrev pub next_calls : {T E : Type 0} → Result T E → Calls → Calls
+next_calls (Ok done) calls = passed calls
+next_calls (Err e) calls = faulted calls
+
 -- a write didn't fail, and took some of its piece where that isn't empty
 abbrev pub took_some : {E : Type 0} → Result ℕ E → List ℕ → Bool
 took_some (Ok count) piece = nat_lt 0 count || (length piece == 0)

@@ -3,8 +3,14 @@
 //! It hides how bytes come and go.
 #![tactic(auto)]
 
+mod buffers;
 mod calls;
+mod disk_reading;
+mod disks;
 mod errors;
+mod fuse_disk;
+mod marks;
+mod mem_disk;
 mod mem_sink;
 mod mem_source;
 mod reading;
@@ -16,7 +22,11 @@ mod std_source;
 mod tests;
 mod writing;
 
+pub use disk_reading::{byte_at, read_exactly};
+pub use disks::Disk;
 pub use errors::{Failed, ReadRefusal};
+pub use fuse_disk::FuseDisk;
+pub use mem_disk::MemDisk;
 pub use mem_sink::MemSink;
 pub use mem_source::MemSource;
 pub use reading::read_all;
