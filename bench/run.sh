@@ -1,5 +1,5 @@
 #!/bin/sh
-# Times the built program from outside. Build it first: ./mp step < examples/first.mps
+# Times the built programs from outside. Build them first: ./mp step < examples/first.mps, and rt run in crates/mp_bench
 set -eu
 cd "$(dirname "$0")/.."
 folder=$(mktemp -d)
@@ -32,3 +32,6 @@ echo "step, 10,000 statements, 9,998 puts of distinct keys: $(time_of step_from 
 tail -n 1 "$folder/out"
 echo "step, a script of 1,048,576 bytes with 10,000 statements: $(time_of step_from "$folder/longest.mps")"
 tail -n 1 "$folder/out"
+
+echo "mp_bench, 40,960 full leaves filled, written and read: $(time_of crates/mp_bench/out/mp_bench pages 40960)"
+cat "$folder/out"
