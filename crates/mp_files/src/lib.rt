@@ -1,0 +1,11 @@
+//! The files that a store lies in: a disk on a file of the system, and the nine disks of a store and its logs.
+#![tactic(auto)]
+
+mod disks;
+mod file_disk;
+
+pub use disks::Disks;
+pub use file_disk::{FileDisk, FileRefusal};
+
+#[cfg(test)]
+mod tests;
