@@ -1,0 +1,9 @@
+-- The fences and the count, and then the cells.
+use Rattle.std.proofs.Common.{ap, length}
+use Rattle.std.specs.List.{flat_map}
+use Rattle.mp_cells.specs.ChildCell.{child_cell}
+use Rattle.mp_redo.proofs.Puts.{make_puts}
+use Rattle.mp_redo.proofs.writing.put_inner.Goals as goal
+
+pub returns : goal.returns
+returns c = make_puts c.args.low c.args.high (length c.args.children.now) c.len.result (flat_map child_cell c.args.children.now) (flat_map child_cell c.as_slice.result.now) c.args.into.now c.put_make.new.into c.put_children.new.into c.len.ensures.count (ap (flat_map child_cell) c.as_slice.ensures) c.put_make.ensures c.put_children.ensures

@@ -1,0 +1,14 @@
+//! The bytes of mini-transactions in a log: how an mtr is written, and read back.
+#![tactic(auto)]
+
+mod kinds;
+mod laws;
+mod reading;
+mod writing;
+
+pub use laws::{law_mtr_spelling, law_small_mtr};
+pub use reading::{RedoRefusal, decode};
+pub use writing::{encode, size};
+
+#[cfg(test)]
+mod tests;
