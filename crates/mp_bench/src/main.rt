@@ -1,9 +1,12 @@
-//! Work to be timed from outside. The words name the work and a number of rounds; what is printed depends on all that was
-//! done, and is the same for the same words.
+//! Work to be timed from outside. The words name the work, or all of it, and a number of rounds; what is printed depends on
+//! all that was done, and is the same for the same words.
 #![tactic(auto)]
 
+mod mtrs;
 mod pages;
 
+use mp_model::Memory;
+use std::alloc::Global;
 use std::process::ExitCode;
 use std::{env, io};
 
@@ -12,18 +15,54 @@ fn main(rt: HostRuntime) -> io::Result<ExitCode> {
     let (Some(work), Some(rounds), None) = (words.next(), words.next(), words.next()) else {
         return usage(&rt);
     };
-    let Ok(rounds) = rounds.parse::<u32>() else {
+    let (Ok(rounds), Some(works)) = (rounds.parse::<u32>(), works_of(work.as_str())) else {
         return usage(&rt);
     };
-    let sum = match work.as_str() {
-        "pages" => pages::write_and_read(rounds),
-        _ => return usage(&rt),
-    };
-    println!(rt; "{work} {rounds} sum {sum}")?;
+    for work in works {
+        match work.sum(rt.alloc(), rounds) {
+            Ok(sum) => println!(rt; "{} {rounds} sum {sum}", work.name())?,
+            Err(Memory) => return Err(io::ErrorKind::OutOfMemory.into()),
+        }
+    }
     Ok(ExitCode::SUCCESS)
 }
 
 fn usage(rt: &HostRuntime) -> io::Result<ExitCode> {
-    println!(*rt; "usage: mp_bench pages ROUNDS")?;
+    println!(*rt; "usage: mp_bench pages, mtrs or all ROUNDS")?;
     Ok(ExitCode::from(1))
+}
+
+/// What can be timed.
+#[derive(Clone, Copy, Debug)]
+enum Work {
+    /// Leaves are filled, written as bytes and read back.
+    Pages,
+    /// Mtrs are written as bytes and read back.
+    Mtrs,
+}
+
+// The works that a word names.
+fn works_of(word: &str) -> Option<&'static [Work]> {
+    match word {
+        "pages" => Some(&[Work::Pages]),
+        "mtrs" => Some(&[Work::Mtrs]),
+        "all" => Some(&[Work::Pages, Work::Mtrs]),
+        _ => None,
+    }
+}
+
+impl Work {
+    fn name(self) -> &'static str {
+        match self {
+            Work::Pages => "pages",
+            Work::Mtrs => "mtrs",
+        }
+    }
+
+    fn sum(self, alloc: Global, rounds: u32) -> Result<u64, Memory> {
+        match self {
+            Work::Pages => Ok(pages::write_and_read(rounds)),
+            Work::Mtrs => mtrs::write_and_read(alloc, rounds),
+        }
+    }
 }

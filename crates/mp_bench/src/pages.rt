@@ -1,6 +1,7 @@
 //! Leaves are filled row by row, written as bytes and read back.
 
 ghost use Rattle.mp_cells.specs.Changes.{HasCells};
+ghost use Rattle.mp_cells.specs.Rows.{IsRow};
 
 use mp_cells::{Change, Kind, Link, Row, RowCells};
 use mp_model::{TrxId, Value};
@@ -41,16 +42,23 @@ fn put_row(key: u32) -> Change
     ensures { HasCells result }
 {
     Change::PutRow {
-        row: Row {
-            key,
-            value: Value::read(b"a-value-of-thirty-two-bytes,-all"),
-            writer: Some(TrxId {
-                node: 1,
-                slot: 0,
-                version: 1,
-            }),
-            link: Some(Link { page: 2, index: 0 }),
-        },
+        row: written_row(key),
+    }
+}
+
+/// A row with a value of 32 bytes, and with a writer.
+pub fn written_row(key: u32) -> Row
+    ensures { IsRow result }
+{
+    Row {
+        key,
+        value: Value::read(b"a-value-of-thirty-two-bytes,-all"),
+        writer: Some(TrxId {
+            node: 1,
+            slot: 0,
+            version: 1,
+        }),
+        link: Some(Link { page: 2, index: 0 }),
     }
 }
 
