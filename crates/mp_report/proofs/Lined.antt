@@ -1,5 +1,5 @@
 -- One more line of a list of lines that is printed from the front.
-use Rattle.std.proofs.Common.{◌≡◌, ◌∙◌, ℕ, zero, suc, ◌+◌, ◌<◌, List, [], ◌∷◌, ◌++◌, map, take, Option, Some, None, slice_get, refl, sym, ap, append_assoc, append-nil, add-one}
+use Rattle.std.proofs.Common.{◌≡◌, ◌∙◌, ℕ, zero, suc, ◌+◌, List, [], ◌∷◌, ◌++◌, map, take, Some, slice_get, refl, sym, ap, append_assoc, append-nil, add-one}
 use Rattle.std.proofs.lemmas.List.Concat.{flat_map-append}
 use Rattle.mp_report.specs.Lines.{line, text_of}
 

@@ -10,3 +10,4 @@ pub mod Grammar
 pub mod Drafts
 pub mod Refusals
 pub mod Pages
+pub mod Records

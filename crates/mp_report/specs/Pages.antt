@@ -1,5 +1,5 @@
 -- How a page is printed.
-use Rattle.std.specs.Prelude.{ℕ, List, [], ◌∷◌, ◌++◌, length, map, Option, Some, None, codes, decimal}
+use Rattle.std.specs.Prelude.{ℕ, List, [], ◌∷◌, ◌++◌, map, Option, Some, None, codes, decimal}
 use Rattle.mp_model.specs.declared.ids.TrxId.{TrxId}
 use Rattle.mp_cells.specs.declared.children.Child.{Child}
 use Rattle.mp_cells.specs.declared.kinds.Kind.{Kind}

@@ -9,6 +9,7 @@ mod lines;
 mod pages;
 mod reader;
 mod reading;
+mod records;
 mod replies;
 mod stands;
 #[cfg(test)]
@@ -19,4 +20,5 @@ mod words;
 pub use laws::law_texts_differ;
 pub use pages::print_page;
 pub use reader::{ReadRefusal, read_transcript};
+pub use records::print_record;
 pub use transcripts::print_transcript;

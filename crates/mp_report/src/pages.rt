@@ -109,7 +109,8 @@ pub fn push_row_line(text: &mut Text, row: &Row) -> Result<(), Memory>
     text.push(b'\n')
 }
 
-fn push_held(text: &mut Text, key: u32, value: &Option<Value>) -> Result<(), Memory>
+/// Adds a row's key with its value, or as gone.
+pub fn push_held(text: &mut Text, key: u32, value: &Option<Value>) -> Result<(), Memory>
     ensures { OnOk result (text.new.items ≡ text.old.items ++ front (held_words key value.now)) }
 {
     match value {
@@ -122,7 +123,12 @@ fn push_held(text: &mut Text, key: u32, value: &Option<Value>) -> Result<(), Mem
     }
 }
 
-fn push_writer(text: &mut Text, writer: &Option<TrxId>, link: &Option<Link>) -> Result<(), Memory>
+/// Adds a row's writer and where the version before is, after a space.
+pub fn push_writer(
+    text: &mut Text,
+    writer: &Option<TrxId>,
+    link: &Option<Link>,
+) -> Result<(), Memory>
     ensures { OnOk result (text.new.items ≡ text.old.items ++ spaced (writer_words writer.now link.now)) }
 {
     let Some(id) = writer else {

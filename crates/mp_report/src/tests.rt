@@ -1,8 +1,8 @@
 //! The texts of a run of each mode, and of each reply.
 
 use crate::pages::{push_child_line, push_row_line};
-use crate::{ReadRefusal, print_page, print_transcript, read_transcript};
-use mp_cells::{Child, Link, Row};
+use crate::{ReadRefusal, print_page, print_record, print_transcript, read_transcript};
+use mp_cells::{Change, Child, Link, Record, Row, RowCells};
 use mp_model::{
     Answer, Answers, Down, Downs, KeyValue, Memory, Mode, Names, Part, Parts, Reply, Rows, Text,
     Transcript, TrxId, TrxName, Value, WriteVerb,
@@ -239,5 +239,59 @@ fn cells_of_pages(rt: HostRuntime) -> Result<(), Fail> {
     push_child_line(&mut text, &Child { low: 9, page: 5 })?;
     let want = b"row 1 a\nrow 2 a by 1.0.7 undo 2.3\ngone 4 by 1.0.7 undo 2.3\nchild 9 5\n";
     assert!(rt; text.as_slice() == want.as_slice());
+    Ok(())
+}
+
+// Whether this is the text of a record.
+fn has_text(rt: HostRuntime, item: &Record, want: &[u8]) -> Result<bool, Fail> {
+    let text = print_record(rt.alloc(), item)?;
+    Ok(text.as_slice() == want)
+}
+
+fn page_record(change: Change) -> Record {
+    Record::Page {
+        page: 3,
+        prev: 5,
+        change,
+    }
+}
+
+#[test]
+fn records_of_a_log(rt: HostRuntime) -> Result<(), Fail> {
+    let mut rows = RowCells::new();
+    rows.put(written(2, Value::read(b"a")));
+    let make_leaf = Change::MakeLeaf {
+        low: 0,
+        high: 9,
+        rows,
+    };
+    let row = written(4, None);
+    let id = TrxId {
+        node: 1,
+        slot: 0,
+        version: 7,
+    };
+    let lines: [(Record, &str); 5] = [
+        (
+            page_record(make_leaf),
+            "makeleaf page 3 prev 5 low 0 high 9 rows 1\nrow 2 a by 1.0.7 undo 2.3\n",
+        ),
+        (
+            page_record(Change::PutRow { row }),
+            "putrow page 3 prev 5 gone 4 by 1.0.7 undo 2.3\n",
+        ),
+        (
+            page_record(Change::Cut { from: 6 }),
+            "cut page 3 prev 5 from 6\n",
+        ),
+        (
+            page_record(Change::TakePage { page: 8 }),
+            "take page 3 prev 5 bit 8\n",
+        ),
+        (Record::Commit { id, cts: 9 }, "commit 1.0.7 at 9\n"),
+    ];
+    for (item, want) in lines {
+        assert!(rt; has_text(rt, &item, want.as_bytes())?);
+    }
     Ok(())
 }
