@@ -35,3 +35,6 @@ tail -n 1 "$folder/out"
 
 echo "mp_bench, 40,960 full leaves filled, written and read: $(time_of crates/mp_bench/out/mp_bench pages 40960)"
 cat "$folder/out"
+
+echo "mp_bench, 100,000 mtrs of four records made, written and read: $(time_of crates/mp_bench/out/mp_bench mtrs 100000)"
+cat "$folder/out"
