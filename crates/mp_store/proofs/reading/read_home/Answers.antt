@@ -1,0 +1,10 @@
+-- The home's halves are its sides.
+use Rattle.std.proofs.Common.{◌+◌, ◌*◌}
+use Rattle.mp_store.proofs.Halves.{front_half, back_half}
+use Rattle.mp_store.proofs.reading.read_home.Goals as goal
+
+pub returns-clause-first : goal.returns-clause-first
+returns-clause-first g c = λ tells. front_half 1040 (128 + 2080 * c.args.number) _ _ (rw (c.page_place.ensures) at (c.in_ok-read_exactly.ensures.bytes tells))
+
+pub returns-clause-second : goal.returns-clause-second
+returns-clause-second g c = λ tells. back_half 1040 (128 + 2080 * c.args.number) _ _ (rw (c.page_place.ensures) at (c.in_ok-read_exactly.ensures.bytes tells))

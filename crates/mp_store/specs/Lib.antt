@@ -1,0 +1,6 @@
+pub mod Checks
+pub mod Layout
+pub mod HeaderSides
+pub mod PageSides
+pub mod StoreFiles
+pub mod Answers

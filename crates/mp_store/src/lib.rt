@@ -1,0 +1,17 @@
+//! The store: a file of 4,096 pages and a header, each with two sides, of which one is in force while the other is
+//! written. It hides which side is written, and the order of the device's calls.
+#![tactic(auto)]
+
+mod checking;
+mod checks;
+mod header_sides;
+mod headers;
+mod page_sides;
+mod reading;
+mod refusals;
+mod sides;
+mod store;
+
+pub use headers::Header;
+pub use refusals::StoreRefusal;
+pub use store::Store;
