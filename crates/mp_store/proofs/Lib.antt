@@ -1,3 +1,5 @@
 pub mod Halves
 pub mod HeaderChecks
 pub mod HomeChecks
+pub mod Outside
+pub mod WrittenSides

@@ -4,3 +4,4 @@ pub mod HeaderSides
 pub mod PageSides
 pub mod StoreFiles
 pub mod Answers
+pub mod SideWrites

@@ -11,6 +11,7 @@ mod reading;
 mod refusals;
 mod sides;
 mod store;
+mod writing;
 
 pub use headers::Header;
 pub use refusals::StoreRefusal;

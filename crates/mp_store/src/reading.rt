@@ -1,9 +1,9 @@
 //! Homes read from the disk.
 
-ghost use Rattle.std.specs.Prelude.{◌≡◌, ℕ, ◌+◌, ◌<◌, ◌≤◌, ◌^◌, IsTrue, IfOk, OnErr, take, drop};
+ghost use Rattle.std.specs.Prelude.{◌≡◌, ℕ, ◌+◌, ◌<◌, ◌≤◌, ◌^◌, IsTrue, IfOk, OnOk, OnErr, length, take, drop};
 ghost use Rattle.mp_outside.specs.Faults.{Rose};
 ghost use Rattle.mp_outside.specs.Disks.{Quiet};
-ghost use Rattle.mp_store.specs.Layout.{store_length, page_place, header_side, page_side};
+ghost use Rattle.mp_store.specs.Layout.{store_length, header_place, page_place, header_side, page_side};
 ghost use Rattle.mp_store.specs.StoreFiles.{page_in_force, page_fault_in_force};
 ghost use Rattle.mp_store.specs.Answers.{Finds, HasCause};
 
@@ -25,12 +25,23 @@ pub(crate) fn page_place(number: u16, side: Side) -> u64
     }
 }
 
+/// The place of a header's side.
+pub(crate) fn header_place(side: Side) -> u64
+    ensures { result ≡ header_place side }
+{
+    match side {
+        Side::First => 0,
+        Side::Second => 64,
+    }
+}
+
 /// The header's home. It is refused only where a read fails or the file is too short.
 pub(crate) fn read_headers<D: Disk>(disk: &mut D) -> Result<[u8; 128], Failed>
     ensures tells { D.tells disk.new ≡ D.tells disk.old }
     ensures quiet { Quiet (D.seen disk.old) (D.image disk.old) (D.seen disk.new) (D.image disk.new) }
     ensures first { IsTrue (D.tells disk.old) → IfOk result (λ home. take 64 home ≡ header_side Side.First (D.seen disk.old)) }
     ensures second { IsTrue (D.tells disk.old) → IfOk result (λ home. drop 64 home ≡ header_side Side.Second (D.seen disk.old)) }
+    ensures long { IsTrue (D.tells disk.old) → OnOk result (header_place Side.Second + 64 ≤ length (D.seen disk.old)) }
     ensures known { D.known disk.new ≡ D.known disk.old }
     ensures count { D.faults disk.old ≤ D.faults disk.new }
     ensures cause { store_length ≤ D.known disk.old → OnErr result (Rose (D.faults disk.old) (D.faults disk.new)) }
@@ -47,6 +58,7 @@ pub(crate) fn read_home<D: Disk>(disk: &mut D, number: u16) -> Result<[u8; 2080]
     ensures quiet { Quiet (D.seen disk.old) (D.image disk.old) (D.seen disk.new) (D.image disk.new) }
     ensures first { IsTrue (D.tells disk.old) → IfOk result (λ home. take 1040 home ≡ page_side number Side.First (D.seen disk.old)) }
     ensures second { IsTrue (D.tells disk.old) → IfOk result (λ home. drop 1040 home ≡ page_side number Side.Second (D.seen disk.old)) }
+    ensures long { IsTrue (D.tells disk.old) → OnOk result (page_place number Side.Second + 1040 ≤ length (D.seen disk.old)) }
     ensures known { D.known disk.new ≡ D.known disk.old }
     ensures count { D.faults disk.old ≤ D.faults disk.new }
     ensures cause { store_length ≤ D.known disk.old → OnErr result (Rose (D.faults disk.old) (D.faults disk.new)) }
