@@ -3,3 +3,5 @@ pub mod HeaderChecks
 pub mod HomeChecks
 pub mod Outside
 pub mod WrittenSides
+pub mod NewSides
+pub mod ShownAfter

@@ -117,7 +117,8 @@ pub(crate) fn header_in(first: &[u8], second: &[u8]) -> Side
 /// The bytes of a header behind its gate.
 #[tactic(auto, unfolding(crate::specs::HeaderSides::header_body))]
 pub(crate) fn header_body(header: &Header) -> [u8; 63]
-    ensures { result ≡ header_body header.now }
+    ensures body { result ≡ header_body header.now }
+    ensures long { length result ≡ 63 }
 {
     let mut body = [0; 63];
     body[..15].copy_from_slice(&MARK);

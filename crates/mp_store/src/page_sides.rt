@@ -76,8 +76,12 @@ pub(crate) fn idle(in_force: Option<Side>) -> Side
 /// The bytes of a page's side behind its gate. They take no memory.
 #[tactic(auto, unfolding(crate::specs::PageSides::page_body))]
 pub(crate) fn page_body(generation: u64, page: &Page) -> [u8; 1039]
-    ensures { result ≡ page_body generation page.now }
+    ensures body { result ≡ page_body generation page.now }
+    ensures long { length result ≡ 1039 }
+    ensures page { IsPage page.now }
 {
+    // The kind hands out what is known of every page.
+    let _kind = page.kind();
     let mut bytes = [0; 1024];
     write_page(page, &mut bytes);
     let mut body = [0; 1039];

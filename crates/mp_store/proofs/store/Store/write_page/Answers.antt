@@ -1,0 +1,31 @@
+-- A side left so is a page left so, and a whole one is the page in force.
+use Rattle.std.proofs.Common.{◌≡◌, ℕ, List, length, IsTrue, ap, sym, ◌∙◌, subst, arith}
+use Rattle.mp_store.specs.declared.headers.Header.{Header}
+use Rattle.mp_store.specs.PageSides.{page_body}
+use Rattle.mp_store.specs.SideWrites.{PageLeft, open_side, yields, kept_side}
+use Rattle.mp_store.proofs.NewSides.{Shows, page_shown}
+use Rattle.mp_store.proofs.ShownAfter.{page_left, page_written, on_ok_both}
+use Rattle.mp_store.proofs.store.Store.write_page.Goals as goal
+
+pub returns-clause-shown : goal.returns-clause-shown
+returns-clause-shown g c = λ tells. λ store. λ counted. λ smaller.
+    let old = g.D.Disk.seen c.args.disk.now in
+    let body = c.page_body.result in
+    let page = c.args.page.now in
+    let generation = c.args.generation in
+    let long : length (open_side body) ≡ 1040 = omega (arith, c.page_body.ensures.long) in
+    let shows : Shows (open_side body) generation page = subst (λ (b : List ℕ). Shows (open_side b) generation page) (sym c.page_body.ensures.body) (page_shown generation page c.ranges.generation.fits c.page_body.ensures.page) in
+    let smaller' = subst (λ (h : Header). IsTrue (yields store generation page.llsn (kept_side h.generation c.args.number old))) (sym c.self.view_is) smaller in
+    on_ok_both c.write_page_side.result (c.write_page_side.ensures.done tells) (c.write_page_side.ensures.room tells)
+    (λ done room. page_written c.self.inside.header.generation store c.args.number generation page (open_side body) old (g.D.Disk.seen c.write_page_side.new.disk) long shows counted smaller' room done)
+
+pub returns-clause-views : goal.returns-clause-views
+returns-clause-views g c = λ tells. λ only. λ image. λ left.
+    let old = g.D.Disk.seen c.args.disk.now in
+    let body = c.page_body.result in
+    let page = c.args.page.now in
+    let generation = c.args.generation in
+    let long : length (open_side body) ≡ 1040 = omega (arith, c.page_body.ensures.long) in
+    let shows : Shows (open_side body) generation page = subst (λ (b : List ℕ). Shows (open_side b) generation page) (sym c.page_body.ensures.body) (page_shown generation page c.ranges.generation.fits c.page_body.ensures.page) in
+    subst (λ (h : Header). PageLeft h.generation c.args.number generation page old image) c.self.view_is
+    (page_left c.self.inside.header.generation c.args.number generation page (open_side body) old image long shows (c.write_page_side.ensures.images tells only image left))
