@@ -5,3 +5,4 @@ pub mod Outside
 pub mod WrittenSides
 pub mod NewSides
 pub mod ShownAfter
+pub mod FreshFiles

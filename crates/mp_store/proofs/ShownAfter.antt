@@ -68,16 +68,16 @@ module _ (number : ℕ) (written : Side) (old new : List ℕ) (h : SameOutside (
 
 -- ---- the page whose side was written, by which sides count and which outranks the other
 
-force : Bool → Bool → Bool → Option Side
+unfoldable pub force : Bool → Bool → Bool → Option Side
 force first second later = if second && (not first || later) then Some Second else (if first then Some First else None)
 
-shown_by : Option Side → PageView → PageView → PageView
+unfoldable pub shown_by : Option Side → PageView → PageView → PageView
 shown_by None p q = blank_page 0
 shown_by (Some First) p q = p
 shown_by (Some Second) p q = q
 
 -- the page that a home shows
-page_of_home : ℕ → List ℕ → List ℕ → PageView
+unfoldable pub page_of_home : ℕ → List ℕ → List ℕ → PageView
 page_of_home g first second = shown_page (side_in_force g first second) first second
 
 shown_page_is : (in_force : Option Side) (first second : List ℕ) → shown_page in_force first second ≡ shown_by in_force (page_in first) (page_in second)
@@ -86,7 +86,7 @@ shown_page_is None first second = refl
 shown_page_is (Some First) first second = refl
 shown_page_is (Some Second) first second = refl
 
-home_is : (g : ℕ) (first second : List ℕ) → page_of_home g first second ≡ shown_by (force (counts g first) (counts g second) (outranks second first)) (page_in first) (page_in second)
+pub home_is : (g : ℕ) (first second : List ℕ) → page_of_home g first second ≡ shown_by (force (counts g first) (counts g second) (outranks second first)) (page_in first) (page_in second)
 unfolding page_of_home side_in_force force
 home_is g first second = shown_page_is (side_in_force g first second) first second
 
@@ -128,10 +128,10 @@ second_new false true z later p q new e = absurd (cc)
 second_new false false z later p q new e = absurd (cc)
 
 -- a side that isn't open doesn't count, and a new one counts where its generation does
-shut_counts : (g : ℕ) (side : List ℕ) → is_open side ≡ false → counts g side ≡ false
+pub shut_counts : (g : ℕ) (side : List ℕ) → is_open side ≡ false → counts g side ≡ false
 shut_counts g side shut = rw shut refl
 
-new_counts : (g : ℕ) (side : List ℕ) (generation : ℕ) (page : PageView) → Shows side generation page → counts g side ≡ nat_le generation g
+pub new_counts : (g : ℕ) (side : List ℕ) (generation : ℕ) (page : PageView) → Shows side generation page → counts g side ≡ nat_le generation g
 new_counts g side generation page h = rw (h.opened, h.generation_is) refl
 
 -- the home where its first side was written, or its second
@@ -185,7 +185,7 @@ second_written g generation page side first second new shows idle_is (inr (inr w
 
 -- ---- a page's side was written
 
-file_home : (g number : ℕ) (file : List ℕ) → page_in_force g number file ≡ page_of_home g (page_side number First file) (page_side number Second file)
+pub file_home : (g number : ℕ) (file : List ℕ) → page_in_force g number file ≡ page_of_home g (page_side number First file) (page_side number Second file)
 unfolding page_in_force page_of_home
 file_home g number file = refl
 
@@ -267,14 +267,14 @@ page_after store g number generation page side old new long shows counted smalle
 
 -- ---- a header's side was written
 
-header_of_home : List ℕ → List ℕ → Header
+unfoldable pub header_of_home : List ℕ → List ℕ → Header
 header_of_home first second = header_of (pick (header_in first second) first second)
 
 picked : (side : Side) (file : List ℕ) → header_side side file ≡ pick side (header_side First file) (header_side Second file)
 picked First file = refl
 picked Second file = refl
 
-header_home : (file : List ℕ) → header_in_force file ≡ header_of_home (header_side First file) (header_side Second file)
+pub header_home : (file : List ℕ) → header_in_force file ≡ header_of_home (header_side First file) (header_side Second file)
 unfolding header_in_force header_of_home
 header_home file = ap header_of (picked (header_side_in_force file) file)
 
@@ -288,11 +288,11 @@ either first second = by_side (header_in first second)
     by_side Second = inr refl
 
 -- the header of a home by what is known of its sides
-header_by : (side : Side) (first second : List ℕ) → header_in first second ≡ side → header_of_home first second ≡ header_of (pick side first second)
+pub header_by : (side : Side) (first second : List ℕ) → header_in first second ≡ side → header_of_home first second ≡ header_of (pick side first second)
 unfolding header_of_home
 header_by side first second is = ap (λ s. header_of (pick s first second)) is
 
-second_shut : (first second : List ℕ) → is_open second ≡ false → header_in first second ≡ First
+pub second_shut : (first second : List ℕ) → is_open second ≡ false → header_in first second ≡ First
 second_shut first second shut = rw shut refl
 
 first_shut : (first second : List ℕ) → is_open first ≡ false → is_open second ≡ true → header_in first second ≡ Second

@@ -5,3 +5,4 @@ pub mod PageSides
 pub mod StoreFiles
 pub mod Answers
 pub mod SideWrites
+pub mod FreshStores

@@ -6,6 +6,7 @@ mod checking;
 mod checks;
 mod header_sides;
 mod headers;
+mod fresh;
 mod page_sides;
 mod reading;
 mod refusals;
@@ -14,5 +15,6 @@ mod store;
 mod writing;
 
 pub use headers::Header;
+pub use fresh::init;
 pub use refusals::StoreRefusal;
 pub use store::Store;

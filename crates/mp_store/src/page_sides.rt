@@ -1,6 +1,7 @@
 //! Pages read from the sides of a page's home, and written to one.
 
-ghost use Rattle.std.specs.Prelude.{◌≡◌, ℕ, ◌+◌, ◌<◌, ◌≤◌, ◌^◌, ◌++◌, None, Some, IfOk, IfErr, length, take, drop};
+ghost use Rattle.std.specs.Prelude.{◌≡◌, ℕ, ◌+◌, ◌<◌, ◌≤◌, ◌^◌, ◌++◌, None, Some, IfOk, IfErr, length, take, drop, replicate};
+ghost use Rattle.byteorder.specs.Endian.{little_bytes};
 ghost use Rattle.mp_cells.specs.PageView.{IsPage};
 ghost use Rattle.mp_page.specs.Grammar.{spelling, page_of};
 ghost use Rattle.mp_page.specs.Grammar as grammar;
@@ -73,6 +74,18 @@ pub(crate) fn idle(in_force: Option<Side>) -> Side
     }
 }
 
+/// The bytes of a page's side behind its gate, of the page's 1,024 bytes.
+pub(crate) fn side_body(generation: u64, page: &[u8]) -> [u8; 1039]
+    requires { length page.now ≡ 1024 }
+    ensures body { result ≡ replicate 7 0 ++ (little_bytes 8 generation ++ page.now) }
+    ensures long { length result ≡ 1039 }
+{
+    let mut body = [0; 1039];
+    body[7..15].copy_from_slice(&u64_bytes(generation));
+    body[15..].copy_from_slice(page);
+    body
+}
+
 /// The bytes of a page's side behind its gate. They take no memory.
 #[tactic(auto, unfolding(crate::specs::PageSides::page_body))]
 pub(crate) fn page_body(generation: u64, page: &Page) -> [u8; 1039]
@@ -84,10 +97,7 @@ pub(crate) fn page_body(generation: u64, page: &Page) -> [u8; 1039]
     let _kind = page.kind();
     let mut bytes = [0; 1024];
     write_page(page, &mut bytes);
-    let mut body = [0; 1039];
-    body[7..15].copy_from_slice(&u64_bytes(generation));
-    body[15..].copy_from_slice(&bytes);
-    body
+    side_body(generation, &bytes)
 }
 
 // The page of a side that lies at a place, or the place of its fault.
