@@ -5,7 +5,7 @@ use Rattle.mp_outside.specs.Disks.{written}
 use Rattle.mp_cells.specs.declared.kinds.Kind.TheVariants.{Meta, Leaf, Inner}
 use Rattle.mp_cells.specs.Numbers.{number_at}
 use Rattle.mp_cells.specs.PageView.{PageView, IsPage, AreBits, blank_page, is_of, bit_of}
-use Rattle.mp_page.specs.Grammar.{spelling, header_bytes} 
+use Rattle.mp_page.specs.Grammar.{spelling, header_bytes}
 use Rattle.mp_page.specs.Grammar as grammar
 use Rattle.mp_page.proofs.PageAgain.{spelling-sound}
 use Rattle.mp_store.specs.declared.headers.Header.{Header}

@@ -147,8 +147,10 @@ first_written g generation page side first second new shows idle_is (inr (inr wh
   where
     counted : counts g new ≡ nat_le generation g
     counted = ap (counts g) whole ∙ new_counts g side generation page shows
+
     at : (b : Bool) → counts g new ≡ b → page_of_home g new second ≡ shown_by (force b (counts g second) (outranks second new)) (page_in new) (page_in second)
     at b is = home_is g new second ∙ ap (λ x. shown_by (force x (counts g second) (outranks second new)) (page_in new) (page_in second)) is
+
     by_count : (nat_le generation g ≡ true) ⊎ (nat_le generation g ≡ false)
         → (page_of_home g new second ≡ page_of_home g first second) ⊎ ((generation ≤ g) × (page_of_home g new second ≡ page))
     by_count (inl small) =
@@ -171,8 +173,10 @@ second_written g generation page side first second new shows idle_is (inr (inr w
   where
     counted : counts g new ≡ nat_le generation g
     counted = ap (counts g) whole ∙ new_counts g side generation page shows
+
     at : (b : Bool) → counts g new ≡ b → page_of_home g first new ≡ shown_by (force (counts g first) b (outranks new first)) (page_in first) (page_in new)
     at b is = home_is g first new ∙ ap (λ x. shown_by (force (counts g first) x (outranks new first)) (page_in first) (page_in new)) is
+
     by_count : (nat_le generation g ≡ true) ⊎ (nat_le generation g ≡ false)
         → (page_of_home g first new ≡ page_of_home g first second) ⊎ ((generation ≤ g) × (page_of_home g first new ≡ page))
     by_count (inl small) =
@@ -244,6 +248,7 @@ page_after store g number generation page side old new long shows counted smalle
   where
     counted_side : counts g side ≡ true
     counted_side = new_counts g side generation page shows ∙ le-leb generation g counted
+
     by_side : (written : Side) → yields g generation page.llsn (page_side number (other written) old) ≡ true → page_side number (other written) new ≡ page_side number (other written) old
         → part (page_place number written) 1040 new ≡ side → page_in_force g number new ≡ page
     by_side First smaller kept is =

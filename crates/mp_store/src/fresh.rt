@@ -20,7 +20,8 @@ use mp_outside::{Disk, Failed};
 /// The first bytes of a fresh store's page 0, before zeros: a meta page of format 1 with two bits set, those of pages
 /// 0 and 1.
 const MAP: [u8; 33] = [
-    1, 1, 2, 0, 0, 0, 0, 0, 0, 0, 0, 0, 0, 0, 0, 0, 0, 0, 0, 0, 0, 0, 0, 0, 0, 0, 0, 0, 0, 0, 0, 0, 3,
+    1, 1, 2, 0, 0, 0, 0, 0, 0, 0, 0, 0, 0, 0, 0, 0, 0, 0, 0, 0, 0, 0, 0, 0, 0, 0, 0, 0, 0, 0, 0, 0,
+    3,
 ];
 
 /// The first bytes of a fresh store's page 1, before zeros: a leaf of format 1 without rows, with the fences 0 and 2^32.

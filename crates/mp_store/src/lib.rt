@@ -4,9 +4,9 @@
 
 mod checking;
 mod checks;
+mod fresh;
 mod header_sides;
 mod headers;
-mod fresh;
 mod page_sides;
 mod reading;
 mod refusals;
@@ -14,7 +14,10 @@ mod sides;
 mod store;
 mod writing;
 
-pub use headers::Header;
 pub use fresh::init;
+pub use headers::Header;
 pub use refusals::StoreRefusal;
 pub use store::Store;
+
+#[cfg(test)]
+mod tests;

@@ -86,7 +86,13 @@ impl Store {
     /// Writes a page's side that isn't in force: closes its gate where it is open, writes the generation (1 or more)
     /// and the page, and opens it, each made safe before the next. `Failed` comes only where the disk's count of
     /// faults rose; the store is then opened again. It takes no memory.
-    pub fn write_page<D: Disk>(&self, disk: &mut D, number: u16, page: &Page, generation: u64) -> Result<(), Failed>
+    pub fn write_page<D: Disk>(
+        &self,
+        disk: &mut D,
+        number: u16,
+        page: &Page,
+        generation: u64,
+    ) -> Result<(), Failed>
         requires number { number < 4096 }
         requires generation { 1 ≤ generation }
         ensures tells { D.tells disk.new ≡ D.tells disk.old }
@@ -109,7 +115,12 @@ impl Store {
         ensures count { D.faults disk.old ≤ D.faults disk.new }
         ensures cause { store_length ≤ D.known disk.old → OnErr result (Rose (D.faults disk.old) (D.faults disk.new)) }
     {
-        write_page_side(disk, self.header.generation, number, &page_body(generation, page))
+        write_page_side(
+            disk,
+            self.header.generation,
+            number,
+            &page_body(generation, page),
+        )
     }
 
     /// Writes the header's side that isn't in force, as `write_page` does a page's. The new header's generation is

@@ -28,12 +28,21 @@ fn close<D: Disk>(disk: &mut D, place: u64, was_open: bool) -> Result<(), Failed
     ensures known { D.known disk.old ≤ D.known disk.new }
     ensures counts { Counts result (D.faults disk.old) (D.faults disk.new) }
 {
-    if was_open { write_safely(disk, place, &[CLOSED]) } else { Ok(()) }
+    if was_open {
+        write_safely(disk, place, &[CLOSED])
+    } else {
+        Ok(())
+    }
 }
 
 /// Writes a side at a place, whose gate is open or not: closes it if need be, writes the body, and opens it, each made
 /// safe before the next.
-pub(crate) fn write_side<D: Disk>(disk: &mut D, place: u64, was_open: bool, body: &[u8]) -> Result<(), Failed>
+pub(crate) fn write_side<D: Disk>(
+    disk: &mut D,
+    place: u64,
+    was_open: bool,
+    body: &[u8],
+) -> Result<(), Failed>
     requires { place + 1 + length body.now < 2 ^ 64 }
     ensures tells { D.tells disk.new ≡ D.tells disk.old }
     ensures done { IsTrue (D.tells disk.old) → place + 1 + length body.now ≤ length (D.seen disk.old)
@@ -63,7 +72,12 @@ fn is_gate_open(side: Side, first: &[u8], second: &[u8]) -> bool
 }
 
 /// Writes the side of a page that isn't in force in a store of a generation.
-pub(crate) fn write_page_side<D: Disk>(disk: &mut D, generation: u64, number: u16, body: &[u8]) -> Result<(), Failed>
+pub(crate) fn write_page_side<D: Disk>(
+    disk: &mut D,
+    generation: u64,
+    number: u16,
+    body: &[u8],
+) -> Result<(), Failed>
     requires number { number < 4096 }
     requires body { length body.now ≡ 1039 }
     ensures tells { D.tells disk.new ≡ D.tells disk.old }
