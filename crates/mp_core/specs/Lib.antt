@@ -1,0 +1,3 @@
+pub mod World
+pub mod Invariant
+pub mod CoreLaws

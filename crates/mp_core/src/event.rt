@@ -1,0 +1,8 @@
+//! The steps.
+
+use mp_core_trx::TrxEvent;
+
+/// A step of one node on one word, by the component whose word it is. No value of it is made.
+pub enum CoreEvent {
+    Trx(TrxEvent),
+}

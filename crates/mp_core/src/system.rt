@@ -1,0 +1,46 @@
+//! The joint machine, for a table that runs it.
+
+use crate::event::CoreEvent;
+use crate::opening::CoreOpening;
+use crate::part::CorePart;
+use mp_machine::{System, Turn};
+use std::marker::Brand;
+
+/// What a slot of the table holds: nothing yet.
+pub type Frame = ();
+
+/// The machine.
+pub struct Core;
+
+impl System for Core {
+    type Slot = Frame;
+
+    type Part = CorePart;
+
+    type Opening = CoreOpening;
+
+    type Event = CoreEvent;
+
+    ghost use Rattle.mp_core.specs.World.{CorePlace, CoreWorld, core};
+    ghost use Rattle.mp_core.specs.CoreLaws.{laws as core_laws};
+
+    ghost Place = { CorePlace };
+
+    ghost Note = { Unit {0} };
+
+    ghost World = { CoreWorld };
+
+    ghost machine = { core };
+
+    ghost laws = { core_laws };
+}
+
+impl Turn<Core, CoreEvent, CoreOpening> for Brand {
+    ghost use Rattle.mp_core_trx.specs.declared.event.TrxEvent.TheVariants.{LoadTso};
+    ghost use Rattle.mp_core.specs.declared.event.CoreEvent.TheVariants.{Trx};
+    ghost use Rattle.mp_core.specs.World.{empty};
+
+    ghost event = { Trx (LoadTso 0) };
+
+    ghost opening = { empty };
+}

@@ -1,0 +1,6 @@
+use Rattle.mp_core_trx.specs.declared.event.TrxEvent.TheVariants.{StoreActive}
+use Rattle.mp_core.specs.declared.event.CoreEvent.TheVariants.{Trx}
+use Rattle.mp_shared.proofs.shared.Shared.store_active.Given as goal
+
+abbrev pub ghosts-store : goal.ghosts-store
+ghosts-store a = record { event = Trx (StoreActive a._about.now.0 a._about.now.1); opening = a.self.now.table.shared.key }

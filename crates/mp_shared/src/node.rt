@@ -1,0 +1,43 @@
+//! What a thread steps with: the parts of one or more primaries.
+ghost use Rattle.std.specs.Prelude.{◌≡◌, ◌≤◌, IfSome};
+ghost use Rattle.mp_shared.specs.Slots.{next_slot, CanUse};
+
+use crate::slot_counts::SlotCounts;
+use mp_core::{Core, CoreOpening};
+use mp_core_trx::SLOTS;
+use mp_machine::Seat;
+use std::marker::Model;
+
+/// The parts of one or more primaries. No two nodes of a table hold one part.
+#[derive(Drop)]
+pub struct Node {
+    pub(crate) seat: Seat<Core>,
+    pub(crate) opening: CoreOpening,
+    pub(crate) counts: SlotCounts,
+}
+
+impl Model for Node {
+    ghost use Rattle.mp_shared.specs.Nodes.{NodeView};
+    ghost use Rattle.mp_shared.specs.Slots.{IsKept};
+
+    ghost Value = { NodeView };
+
+    ghost view = { λ n. record { run = record { table_id = n.seat.table_id; opening = n.opening }; parts = n.seat.me.0; frames = n.seat.me.1 } };
+
+    ghost invariant = { λ n. IsKept n.opening n.seat.me.0 n.counts.used };
+}
+
+impl Node {
+    /// The slot that the next transaction of primary `p` takes: each transaction takes its primary's next unused slot.
+    /// `None` where the node doesn't hold the part of `p`, or all slots of `p` were used. It makes no step.
+    pub fn next_slot(&self, p: u8) -> Option<u16>
+        requires { p ≤ 8 }
+        ensures slot { result ≡ next_slot self.now p }
+        ensures usable { IfSome result (λ slot. CanUse self.now p slot) }
+    {
+        match self.counts.get(p) {
+            Some(count) if count < SLOTS => Some(count),
+            _ => None,
+        }
+    }
+}
