@@ -1,3 +1,5 @@
 pub mod Kept
 pub mod Steps
 pub mod Fits
+mod Begins
+mod Cuts

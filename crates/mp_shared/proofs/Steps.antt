@@ -33,10 +33,13 @@ module _ (st : TableId) (key : CoreOpening) (s : Run) (shared_is : run_of st key
   pub one_table : t ≡ st
   one_table = ap (λ (r : Run). r.table_id) one_run
 
-  one_opening : o ≡ key
+  pub one_opening : o ≡ key
   one_opening = ap (λ (r : Run). r.opening) one_run
 
-  module _ (fair : IsFair key) (used : List (Option ℕ)) (kept : IsKept o me.0 used) (e : CoreEvent) (may : MayTake e v) where
+  module _ (used : List (Option ℕ)) (kept : IsKept o me.0 used) (e : CoreEvent) (may : MayTake e v) where
+    pub fair : IsFair key
+    fair = subst IsFair one_opening kept.fair
+
     its_part : part_in me.0 (node_of e) ≡ Some may.0
     its_part = ap (λ (x : NodeView). part_in x.parts (node_of e)) node_is ∙ may.1
 
@@ -66,6 +69,7 @@ module _ (st : TableId) (key : CoreOpening) (s : Run) (shared_is : run_of st key
         let is : may.0 ≡ q = let both = sym its_part ∙ told.2 in cc in
         let parts : after.0 ≡ with_part me.0 n (made e found q) = told.3 in
         record {
+          fair = kept.fair;
           backed = subst (λ k. Backed (core k) after.0) (sym one_opening) (backed (core key) e me found after told);
           counted = λ k. counted_turned me.0 n q (made e found q) told.2 used later kept.counted (here ∙ ap (λ x. Some (length (made e found x).trx.begun)) is) there k ∙ ap (λ (x : View CorePart). used_by (part_in x k)) (sym parts);
           in_order = λ k p has.
@@ -82,13 +86,14 @@ module _ (st : TableId) (key : CoreOpening) (s : Run) (shared_is : run_of st key
         (kept.counted (node_of e) ∙ ap used_by its_part ∙ ap (λ k. Some k) (sym same_count))
         (λ k other. refl)
 
-  -- what the step told
-  pub took : (e : CoreEvent) (found : ℕ) (after : Me (Unit {0}) (View CorePart)) (t' : TableId) → t' ≡ t → Made (core key) e me found after → Took e v found (view_of t' o after)
-  took e found after t' stays told =
-      let n = node_of e in
-      let parts : after.0 ≡ changed me.0 n (made e found) (part_in me.0 n) = told.3 ∙ sym (ap (changed me.0 n (made e found)) told.2) in
-      let frames : after.1 ≡ me.1 = told.4.carries in
-      subst (λ x. Took e x found (view_of t' o after)) node_is record {
-        becomes = λ i. record { run = run_of (stays i) o; parts = parts i; frames = frames i };
-        came = subst (λ k. Came (core k) e me found tt after) (sym one_opening) told.4;
-      }
+    -- what the step told
+    pub took : (found : ℕ) (after : Me (Unit {0}) (View CorePart)) (t' : TableId) → t' ≡ t → Made (core key) e me found after → Took e v found (view_of t' o after)
+    took found after t' stays told =
+        let n = node_of e in
+        let parts : after.0 ≡ changed me.0 n (made e found) (part_in me.0 n) = told.3 ∙ sym (ap (changed me.0 n (made e found)) told.2) in
+        let frames : after.1 ≡ me.1 = told.4.carries in
+        subst (λ x. Took e x found (view_of t' o after)) node_is record {
+          fair = kept.fair;
+          becomes = λ i. record { run = run_of (stays i) o; parts = parts i; frames = frames i };
+          came = subst (λ k. Came (core k) e me found tt after) (sym one_opening) told.4;
+        }

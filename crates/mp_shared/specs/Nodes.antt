@@ -1,12 +1,19 @@
 -- What contracts see of a node, and what a step makes of it.
-use Rattle.std.specs.Prelude.{◌≡◌, ℕ, ◌+◌, List, Some, None, Option}
+use Rattle.std.specs.Prelude.{◌≡◌, ℕ, ◌+◌, ◌==◌, List, [], Some, None, Option}
 use Rattle.atomic_table.specs.Seated.{TableId}
-use Rattle.mp_machine.specs.View.{View, part_in, with_part}
-use Rattle.mp_machine.specs.Rule.{Came}
+use Rattle.mp_machine.specs.View.{View, part_in, with_part, only, without, joined}
+use Rattle.mp_machine.specs.Rule.{Came, all_parts}
+use Rattle.mp_core_trx.specs.declared.opening.Base.{Base}
+use Rattle.mp_core_trx.specs.Events.{IsNode}
 use Rattle.mp_core.specs.declared.opening.CoreOpening.{CoreOpening}
 use Rattle.mp_core.specs.declared.part.CorePart.{CorePart}
 use Rattle.mp_core.specs.declared.event.CoreEvent.{CoreEvent}
 use Rattle.mp_core.specs.World.{node_of, made, Allowed, core}
+use Rattle.mp_core.specs.Invariant.{IsFair}
+
+-- what a run begins from
+abbrev pub opening_of : Base → ℕ → ℕ → CoreOpening
+opening_of base primaries begins = record { trx = record { base = base; primaries = primaries; begins = begins } }
 
 -- which table it is, and what its run began from
 pub record Run : Type 0 where
@@ -19,9 +26,28 @@ pub record NodeView : Type 0 where
   pub parts : View CorePart
   pub frames : List (ℕ × (Unit {0}))
 
+-- the node that holds the parts of all primaries, before any step
+abbrev pub first_node : Run → NodeView
+first_node run = record { run = run; parts = all_parts (core run.opening); frames = [] }
+
+-- a node without the part of one primary, and a node with that part alone
+abbrev pub node_without : ℕ → NodeView → NodeView
+node_without p n = record { run = n.run; parts = without (λ k. k == p) n.parts; frames = n.frames }
+
+abbrev pub node_of_one : ℕ → NodeView → NodeView
+node_of_one p n = record { run = n.run; parts = only (λ k. k == p) n.parts; frames = [] }
+
+-- a node with the parts of another too
+abbrev pub joined_nodes : NodeView → NodeView → NodeView
+joined_nodes n other = record { run = n.run; parts = joined n.parts other.parts; frames = n.frames }
+
 -- the node may take the step: it holds the part of the step's primary, which allows it
 abbrev pub MayTake : CoreEvent → NodeView → Type 0
 MayTake e n = (p : CorePart) × (part_in n.parts (node_of e) ≡ Some p) × Allowed p e
+
+-- the node holds the part of the primary
+abbrev pub HoldsPart : NodeView → ℕ → Type 0
+HoldsPart n p = (q : CorePart) × (part_in n.parts p ≡ Some q) × IsNode q.trx.opening p
 
 -- the part of one primary changed, where it is held
 abbrev pub changed : View CorePart → ℕ → (CorePart → CorePart) → Option CorePart → View CorePart
@@ -34,6 +60,7 @@ turned n e found = record { run = n.run; parts = changed n.parts (node_of e) (ma
 
 -- The node took the step, and the step found this word: steps came before it, each allowed when it came, whose world agrees with what the node knew and has this word there
 pub record Took (e : CoreEvent) (before : NodeView) (found : ℕ) (after : NodeView) : Type 0 where
+  pub fair : IsFair before.run.opening
   pub becomes : after ≡ turned before e found
   pub came : Came (core before.run.opening) e (before.parts, before.frames) found tt (after.parts, after.frames)
 

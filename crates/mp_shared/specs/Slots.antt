@@ -9,6 +9,7 @@ use Rattle.mp_core_trx.specs.Events.{IsUsable}
 use Rattle.mp_core.specs.declared.opening.CoreOpening.{CoreOpening}
 use Rattle.mp_core.specs.declared.part.CorePart.{CorePart}
 use Rattle.mp_core.specs.World.{core}
+use Rattle.mp_core.specs.Invariant.{IsFair}
 use Rattle.mp_shared.specs.Nodes.{NodeView}
 
 -- how many slots a part has used, if it is held: one for each transaction that it began
@@ -34,8 +35,9 @@ pub record InOrder (p : TrxPart) : Type 0 where
   pub few : length p.begun ≤ SLOTS
   pub fresh : (slot : ℕ) → length p.begun ≤ slot → shown_at p.rows slot ≡ unused
 
--- What is true of each node: a world that can be reached agrees with its parts, and it has counted their slots
+-- What is true of each node: its run's numbers fit, a world that can be reached agrees with its parts, and it has counted their slots
 pub record IsKept (opening : CoreOpening) (parts : View CorePart) (used : List (Option ℕ)) : Type 0 where
+  pub fair : IsFair opening
   pub backed : Backed (core opening) parts
   pub counted : (n : ℕ) → slice_index_or used n None ≡ used_by (part_in parts n)
   pub in_order : (n : ℕ) (p : CorePart) → part_in parts n ≡ Some p → InOrder p.trx

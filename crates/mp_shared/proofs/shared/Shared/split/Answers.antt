@@ -1,0 +1,14 @@
+use Rattle.std.proofs.Common.{sym, subst, ap, ◌∙◌}
+use Rattle.mp_shared.specs.Slots.{IsKept}
+use Rattle.mp_shared.proofs.Cuts.{kept_one, kept_others}
+use Rattle.mp_shared.proofs.shared.Shared.split.Goals as goal
+
+pub invariant_of-result : goal.invariant_of-result
+invariant_of-result c =
+    subst (λ v. IsKept c.node.inside.opening v c.set.new.self.used) (sym (ap (λ me. me.0) c.part_off-seat.ensures.given.1))
+    (kept_one c.node.inside.opening c.node.inside.seat.me.0 _ c.node.invariant c.args.p c.set.new.self.used (c.set.ensures.here ∙ c.get.ensures) (λ n other. c.set.ensures.others n other ∙ c.none-counts.ensures n))
+
+pub invariant_of-node : goal.invariant_of-node
+invariant_of-node c =
+    subst (λ v. IsKept c.node.inside.opening v c.set-2.new.self.used) (sym (ap (λ me. me.0) c.part_off-seat.ensures.kept.1))
+    (kept_others c.node.inside.opening c.node.inside.seat.me.0 _ c.node.invariant c.args.p c.set-2.new.self.used c.set-2.ensures.here c.set-2.ensures.others)
