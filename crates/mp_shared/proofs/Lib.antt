@@ -1,5 +1,6 @@
 pub mod Kept
 pub mod Steps
 pub mod Fits
+pub mod Numbered
 mod Begins
 mod Cuts

@@ -93,7 +93,7 @@ module _ (st : TableId) (key : CoreOpening) (s : Run) (shared_is : run_of st key
         let parts : after.0 ≡ changed me.0 n (made e found) (part_in me.0 n) = told.3 ∙ sym (ap (changed me.0 n (made e found)) told.2) in
         let frames : after.1 ≡ me.1 = told.4.carries in
         subst (λ x. Took e x found (view_of t' o after)) node_is record {
-          fair = kept.fair;
           becomes = λ i. record { run = run_of (stays i) o; parts = parts i; frames = frames i };
           came = subst (λ k. Came (core k) e me found tt after) (sym one_opening) told.4;
+          reached = record { fair = kept.fair; backed = subst (λ k. Backed (core k) after.0) (sym one_opening) (backed (core key) e me found after told) };
         }

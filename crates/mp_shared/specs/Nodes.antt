@@ -2,7 +2,7 @@
 use Rattle.std.specs.Prelude.{◌≡◌, ℕ, ◌+◌, ◌==◌, List, [], Some, None, Option}
 use Rattle.atomic_table.specs.Seated.{TableId}
 use Rattle.mp_machine.specs.View.{View, part_in, with_part, only, without, joined}
-use Rattle.mp_machine.specs.Rule.{Came, all_parts}
+use Rattle.mp_machine.specs.Rule.{Backed, Came, all_parts}
 use Rattle.mp_core_trx.specs.declared.opening.Base.{Base}
 use Rattle.mp_core_trx.specs.Events.{IsNode}
 use Rattle.mp_core.specs.declared.opening.CoreOpening.{CoreOpening}
@@ -58,11 +58,16 @@ changed v n f None = v
 abbrev pub turned : NodeView → CoreEvent → ℕ → NodeView
 turned n e found = record { run = n.run; parts = changed n.parts (node_of e) (made e found) (part_in n.parts (node_of e)); frames = n.frames }
 
+-- What a node knows holds in some world that can be reached, from an opening whose numbers fit
+pub record Reached (n : NodeView) : Type 0 where
+  pub fair : IsFair n.run.opening
+  pub backed : Backed (core n.run.opening) n.parts
+
 -- The node took the step, and the step found this word: steps came before it, each allowed when it came, whose world agrees with what the node knew and has this word there
 pub record Took (e : CoreEvent) (before : NodeView) (found : ℕ) (after : NodeView) : Type 0 where
-  pub fair : IsFair before.run.opening
   pub becomes : after ≡ turned before e found
   pub came : Came (core before.run.opening) e (before.parts, before.frames) found tt (after.parts, after.frames)
+  pub reached : Reached after
 
 -- the same of a step that does not tell what it found
 abbrev pub TookUnseen : CoreEvent → NodeView → NodeView → Type 0

@@ -1,5 +1,6 @@
 //! What a thread steps with: the parts of one or more primaries.
-ghost use Rattle.std.specs.Prelude.{◌≡◌, ◌≤◌, IfSome};
+ghost use Rattle.std.specs.Prelude.{◌≡◌, IfSome};
+ghost use Rattle.mp_shared.specs.Nodes.{HoldsPart, Reached};
 ghost use Rattle.mp_shared.specs.Slots.{next_slot, CanUse};
 
 use crate::slot_counts::SlotCounts;
@@ -27,13 +28,18 @@ impl Model for Node {
     ghost invariant = { λ n. IsKept n.opening n.seat.me.0 n.counts.used };
 }
 
+/// A call that may be tried again later, and changed nothing.
+#[derive(Clone, Copy, Debug, PartialEq, Eq)]
+pub struct NotYet;
+
 impl Node {
     /// The slot that the next transaction of primary `p` takes: each transaction takes its primary's next unused slot.
-    /// `None` where the node doesn't hold the part of `p`, or all slots of `p` were used. It makes no step.
+    /// `None` where all slots of `p` were used. It makes no step.
     pub fn next_slot(&self, p: u8) -> Option<u16>
-        requires { p ≤ 8 }
+        requires { HoldsPart self.now p }
         ensures slot { result ≡ next_slot self.now p }
         ensures usable { IfSome result (λ slot. CanUse self.now p slot) }
+        ensures reached { Reached self.now }
     {
         match self.counts.get(p) {
             Some(count) if count < SLOTS => Some(count),

@@ -1,10 +1,8 @@
 //! The table of all words, and how nodes begin, are cut and put together.
 ghost use Rattle.std.specs.Prelude.{◌≡◌, ◌<◌, ◌==◌, [], slice_set, replicate, IfOk, MatchResult};
 ghost use Rattle.mp_machine.specs.View.{only, without};
-ghost use Rattle.mp_machine.specs.Rule.{Backed};
-ghost use Rattle.mp_core.specs.World.{core};
 ghost use Rattle.mp_core.specs.Invariant.{IsFair};
-ghost use Rattle.mp_shared.specs.Nodes.{opening_of, first_node, HoldsPart, node_without, node_of_one, joined_nodes};
+ghost use Rattle.mp_shared.specs.Nodes.{opening_of, first_node, HoldsPart, node_without, node_of_one, joined_nodes, Reached};
 
 use crate::node::Node;
 use crate::slot_counts::SlotCounts;
@@ -115,7 +113,7 @@ impl Shared {
         requires run { (node.old.run ≡ self.now) × (other.run ≡ self.now) }
         requires frames { other.frames ≡ [] }
         ensures node { node.new ≡ joined_nodes node.old other }
-        ensures backed { Backed (core self.now.opening) node.new.parts }
+        ensures reached { Reached node.new }
     {
         let Node {
             seat,
