@@ -1,13 +1,17 @@
-// A library with one function.
+//! Transaction Fusion: timestamps and the slots of transactions, over the shared table. A primary begins, prepares, draws,
+//! publishes and frees its transactions, and reads where those of others stand. No call takes memory or waits.
+//! `docs/promises.md` has the invariant that callers rely on.
 #![tactic(auto)]
 
-ghost use Rattle.std.specs.Prelude.{◌≡◌};
-ghost use Rattle.mp_trx_fusion.specs.Echo.{echo_of};
+mod commit;
+mod sight;
+mod slot_status;
 
-// The `ensures` clause is the contract: what `echo` returns is `echo_of` of its argument, a definition
-// in `specs/Echo.antt`, which a caller's clause can cite too.
-pub fn echo(x: usize) -> usize
-    ensures { result ≡ echo_of x }
-{
-    x
-}
+pub use commit::{draw, free, prepare, publish};
+pub use mp_core_trx::Begun;
+pub use mp_shared::NotYet;
+pub use sight::{begin, view};
+pub use slot_status::{SlotStatus, status};
+
+#[cfg(test)]
+mod tests;

@@ -1,0 +1,51 @@
+//! What a primary sees of the timestamp oracle, and how its transactions begin.
+ghost use Rattle.std.specs.Prelude.{◌≡◌, ◌≤◌, Some, IfOk, IfErr, IsOk};
+ghost use Rattle.mp_core_trx.specs.declared.opening.TheConstants.{SLOTS};
+ghost use Rattle.mp_shared.specs.Nodes.{HoldsPart, Reached};
+ghost use Rattle.mp_shared.specs.Slots.{next_slot};
+ghost use Rattle.mp_trx_fusion.specs.Calls.{with_trx, saw, began, Knows, HoldsAll, clock_of, MayBegin};
+
+use mp_core_trx::Begun;
+use mp_model::TrxId;
+use mp_shared::{Node, NotYet, Shared};
+
+/// The greatest timestamp that was drawn, or the base where none was. It is at least each timestamp that the part of `p`
+/// knows, and exactly the base and the timestamps drawn where the node holds all parts.
+pub fn view(shared: &Shared, node: &mut Node, p: u8) -> u64
+    requires run { node.old.run ≡ shared.now }
+    requires part { HoldsPart node.old p }
+    ensures becomes { node.new ≡ with_trx node.old p (saw result) }
+    ensures newest { Knows node.old p result }
+    ensures exact { HoldsAll node.old → result ≡ clock_of node.old }
+    ensures reached { Reached node.new }
+{
+    shared.load_tso(node, p)
+}
+
+/// Begins a transaction of `p` with this version, which is above the base version and within the run's, and which no
+/// other transaction of `p` has. It takes the next unused slot of `p`. Its view is the greatest timestamp that was drawn,
+/// loaded in this call. `NotYet` only where all slots of `p` were used, which can't be where the run begins at most as
+/// many transactions as a primary has slots; nothing changed then.
+pub fn begin(shared: &Shared, node: &mut Node, p: u8, version: u32) -> Result<Begun, NotYet>
+    requires run { node.old.run ≡ shared.now }
+    requires may { MayBegin node.old p version }
+    ensures begun { IfOk result (λ b. (b.id.node ≡ p) × (b.id.version ≡ version) × (next_slot node.old p ≡ Some b.id.slot)) }
+    ensures becomes { IfOk result (λ b. node.new ≡ with_trx node.old p (began b)) }
+    ensures newest { IfOk result (λ b. Knows node.old p b.view) }
+    ensures exact { IfOk result (λ b. HoldsAll node.old → b.view ≡ clock_of node.old) }
+    ensures refused { IfErr result (λ _. node.new ≡ node.old) }
+    ensures room { node.old.run.opening.trx.begins ≤ SLOTS → IsOk result }
+    ensures reached { Reached node.new }
+{
+    let Some(slot) = node.next_slot(p) else {
+        return Err(NotYet);
+    };
+    let view = shared.load_tso(node, p);
+    let id = TrxId {
+        node: p,
+        slot,
+        version,
+    };
+    shared.store_active(node, p, id);
+    Ok(Begun { id, view })
+}
