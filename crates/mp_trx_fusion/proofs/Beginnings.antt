@@ -37,7 +37,7 @@ none_left true count is e = absurd (cc)
 none_left false count is e = ltb-false count SLOTS is
 
 -- the next slot is one of the primary's
-next_in_range : (x : Option ℕ) (slot : ℕ) → slot_after x ≡ Some slot → slot < SLOTS
+pub next_in_range : (x : Option ℕ) (slot : ℕ) → slot_after x ≡ Some slot → slot < SLOTS
 next_in_range (Some count) slot e = slot_below (nat_lt count SLOTS) count slot refl e
 next_in_range None slot e = absurd (cc)
 

@@ -1,2 +1,3 @@
 pub mod Sights
 pub mod Beginnings
+pub mod Callers

@@ -79,3 +79,7 @@ pub record MayBegin (n : NodeView) (p version : ℕ) : Type 0 where
 -- the primary may look where the transaction stands: there is its primary, and its slot
 abbrev pub MayLook : NodeView → ℕ → TrxId → Type 0
 MayLook n p id = (q : CorePart) × (part_in n.parts p ≡ Some q) × IsNode q.trx.opening p × IsNode q.trx.opening id.node × (id.slot < SLOTS)
+
+-- the primary may begin with each of so many versions that follow one another
+abbrev pub MayBeginEach : NodeView → ℕ → ℕ → ℕ → Type 0
+MayBeginEach n p after count = (version : ℕ) → after < version → version ≤ after + count → MayBegin n p version

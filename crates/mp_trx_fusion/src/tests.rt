@@ -1,1 +1,106 @@
+//! One commit that two primaries see, and four threads over one table.
+ghost use Rattle.std.specs.Prelude.{◌≡◌, ◌+◌, ◌-◌, ◌*◌, ◌<◌, ◌≤◌, ℕ, []};
+ghost use Rattle.mp_core_trx.specs.declared.opening.TheConstants.{SLOTS};
+ghost use Rattle.mp_shared.specs.Nodes.{HoldsPart};
+ghost use Rattle.mp_trx_fusion.specs.Calls.{MayBegin, MayBeginEach};
 
+use crate::{Begun, SlotStatus, begin, draw, prepare, publish, status, view};
+use mp_model::{Memory, TrxId};
+use mp_shared::{Base, Node, Shared};
+use std::alloc::AllocError;
+use std::thread::{Threads, join};
+
+const FRESH: Base = Base {
+    ts: 0,
+    llsn: 0,
+    version: 0,
+};
+
+#[test]
+fn two_primaries_see_one_commit(rt: HostRuntime) -> Result<(), Memory> {
+    let (shared, mut node) = Shared::open(rt.alloc(), FRESH, 2, 1)?;
+    let Ok(Begun { id, view: seen }) = begin(&shared, &mut node, 1, 1) else {
+        unreachable!()
+    };
+    let first = TrxId {
+        node: 1,
+        slot: 0,
+        version: 1,
+    };
+    prepare(&shared, &mut node, 1, id);
+    let before = status(&shared, &mut node, 2, id);
+    let cts = draw(&shared, &mut node, 1, id);
+    publish(&shared, &mut node, 1, id, cts);
+    let after = status(&shared, &mut node, 2, id);
+    let newest = view(&shared, &mut node, 2);
+    assert!(rt; id == first && seen == 0);
+    assert_eq!(rt; before, SlotStatus::Prep);
+    assert_eq!(rt; cts, 1);
+    assert_eq!(rt; after, SlotStatus::Committed(1));
+    assert_eq!(rt; newest, 1);
+    shared.close(node);
+    Ok(())
+}
+
+/// Begins, prepares, draws and publishes.
+fn commit_one(shared: &Shared, node: &mut Node, p: u8, version: u32) -> u64
+    requires run { node.old.run ≡ shared.now }
+    requires few { shared.now.opening.trx.begins ≤ SLOTS }
+    requires may { MayBegin node.old p version }
+    ensures node { (node.new.run ≡ node.old.run) × (node.new.frames ≡ node.old.frames) }
+    ensures part { HoldsPart node.new p }
+    ensures others { (other : ℕ) → ¬ (other ≡ version) → MayBegin node.old p other → MayBegin node.new p other }
+{
+    let Ok(Begun { id, view: _ }) = begin(shared, node, p, version) else {
+        unreachable!()
+    };
+    prepare(shared, node, p, id);
+    let cts = draw(shared, node, p, id);
+    publish(shared, node, p, id, cts);
+    cts
+}
+
+/// Commits 200 transactions of `p`, with the versions that follow on `after`. The answer has their timestamps.
+fn commit_many(shared: &Shared, mut node: Node, p: u8, after: u32) -> (Node, [u64; 200])
+    requires run { node.run ≡ shared.now }
+    requires few { shared.now.opening.trx.begins ≤ SLOTS }
+    requires may { MayBeginEach node p after 200 }
+    requires fits { after ≤ 600 }
+    ensures node { (result.0.run ≡ shared.now) × (result.0.frames ≡ node.frames) }
+    ensures part { HoldsPart result.0 p }
+{
+    let mut drawn = [0; 200];
+    for i in 0..200u8 {
+        drawn[usize::from(i)] = commit_one(shared, &mut node, p, after + 1 + u32::from(i));
+    }
+    (node, drawn)
+}
+
+/// Two threads do so for two primaries.
+fn commit_by_two<R: Threads + Sync>(
+    rt: &R,
+    shared: &Shared,
+    low: Node,
+    high: Node,
+    p: u8,
+    after: u32,
+) -> ((Node, [u64; 200]), (Node, [u64; 200]))
+    requires run { (low.run ≡ shared.now) × (high.run ≡ shared.now) }
+    requires few { shared.now.opening.trx.begins ≤ SLOTS }
+    requires may { MayBeginEach low p after 200 × MayBeginEach high (p + 1) (after + 200) 200 }
+    requires fits { (after ≤ 400) × (p < 255) }
+    ensures low { (result.0.0.run ≡ shared.now) × (result.0.0.frames ≡ low.frames) × HoldsPart result.0.0 p }
+    ensures high { (result.1.0.run ≡ shared.now) × (result.1.0.frames ≡ high.frames) × HoldsPart result.1.0 (p + 1) }
+{
+    join(
+        rt,
+        move || -> (Node, [u64; 200])
+            requires { (low.run ≡ shared.now) × (shared.now.opening.trx.begins ≤ SLOTS) × MayBeginEach low p after 200 × (after ≤ 400) }
+            ensures { (result.0.run ≡ shared.entry.now) × (result.0.frames ≡ low.frames) × HoldsPart result.0 p }
+        { commit_many(shared, low, p, after) },
+        move || -> (Node, [u64; 200])
+            requires { (high.run ≡ shared.now) × (shared.now.opening.trx.begins ≤ SLOTS) × MayBeginEach high (p + 1) (after + 200) 200 × (after ≤ 400) × (p < 255) }
+            ensures { (result.0.run ≡ shared.entry.now) × (result.0.frames ≡ high.frames) × HoldsPart result.0 (p + 1) }
+        { commit_many(shared, high, p + 1, after + 200) },
+    )
+}

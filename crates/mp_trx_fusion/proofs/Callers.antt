@@ -1,0 +1,147 @@
+-- What may come after each call: so a caller goes from one call to the next.
+use Rattle.std.proofs.Common.{◌≡◌, ℕ, ◌+◌, ◌<◌, ◌≤◌, ◌⊎◌, List, [], ◌∷◌, Option, Some, None, Bool, true, false, not, ◌==◌, if◌then◌else◌, refl, sym, ap, ◌∙◌, subst, inl, inr, ⊎_elim, arith, eq-eqb, ne_eqb}
+use Rattle.mp_machine.specs.Machine.{run}
+use Rattle.mp_machine.specs.View.{View, part_in, only, whole}
+use Rattle.mp_machine.proofs.Views.{part_in-with_here, part_in-with_else, part_in-only, part_in-whole}
+use Rattle.mp_model.specs.declared.ids.TrxId.{TrxId}
+use Rattle.mp_core_trx.specs.declared.opening.TheConstants.{SLOTS}
+use Rattle.mp_core_trx.specs.declared.opening.TrxOpening.{TrxOpening}
+use Rattle.mp_core_trx.specs.declared.slot.SlotTag.TheVariants.{Active, Prep}
+use Rattle.mp_core_trx.specs.declared.slot.Shown.{Shown}
+use Rattle.mp_core_trx.specs.declared.part.Begun.{Begun}
+use Rattle.mp_core_trx.specs.declared.part.SlotRow.{SlotRow}
+use Rattle.mp_core_trx.specs.declared.part.TrxPart.{TrxPart}
+use Rattle.mp_core_trx.specs.declared.event.TrxEvent.TheVariants.{StorePrep, DrawTso, StoreEnd}
+use Rattle.mp_core_trx.specs.Lists.{IsIn}
+use Rattle.mp_core_trx.specs.Parts.{shown_at, Shows, HasBegun, HasDrawnNothing}
+use Rattle.mp_core_trx.specs.Events.{IsNode, row_of}
+use Rattle.mp_core_trx.specs.Words.{shows}
+use Rattle.mp_core.specs.declared.part.CorePart.{CorePart}
+use Rattle.mp_core.specs.declared.event.CoreEvent.{CoreEvent}
+use Rattle.mp_core.specs.declared.event.CoreEvent.TheVariants.{Trx}
+use Rattle.mp_core.specs.World.{node_of, part, start, core}
+use Rattle.mp_core.proofs.Law.{law}
+use Rattle.mp_shared.specs.Nodes.{NodeView, Run, Reached, HoldsPart, MayTake, changed, first_node, node_without, node_of_one}
+use Rattle.mp_trx_fusion.specs.Calls.{with_trx, began, prepared, drew, ended_with, loaded_slot, MayBegin, MayLook}
+
+shown_first : (id : TrxId) (x : Shown) (rows : List SlotRow) → shown_at (row_of id x ∷ rows) id.slot ≡ x
+shown_first id x rows = ap (λ b. if b then x else shown_at rows id.slot) (eq-eqb id.slot id.slot refl)
+
+-- a call of one primary: the node before it and after it
+module _ (n later : NodeView) (p : ℕ) (f : TrxPart → TrxPart) (is : later ≡ with_trx n p f) where
+  -- it changes the part of that primary, and no other
+  pub part_here : (q : CorePart) → part_in n.parts p ≡ Some q → part_in later.parts p ≡ Some (record q { trx = f q.trx })
+  part_here q has =
+      ap (λ (v : NodeView). part_in v.parts p) is ∙ ap (λ x. part_in (changed n.parts p (λ r. record r { trx = f r.trx }) x) p) has ∙ part_in-with_here n.parts p (record q { trx = f q.trx }) q has
+
+  pub part_else : (k : ℕ) → ¬ (k ≡ p) → part_in later.parts k ≡ part_in n.parts k
+  part_else k other = ap (λ (v : NodeView). part_in v.parts k) is ∙ of_held (part_in n.parts p)
+    where
+      of_held : (x : Option CorePart) → part_in (changed n.parts p (λ r. record r { trx = f r.trx }) x) k ≡ part_in n.parts k
+      of_held (Some q) = part_in-with_else n.parts p k (record q { trx = f q.trx }) other
+      of_held None = refl
+
+  -- so what another primary may do stays
+  pub may_take_else : (e : CoreEvent) → ¬ (node_of e ≡ p) → MayTake e n → MayTake e later
+  may_take_else e other may = (may.0, part_else (node_of e) other ∙ may.1, may.2)
+
+  pub may_begin_else : (k version : ℕ) → ¬ (k ≡ p) → MayBegin n k version → MayBegin later k version
+  may_begin_else k version other may = record { mine = may.mine; holds = part_else k other ∙ may.holds; node = may.node; above = may.above; within = may.within; fresh = may.fresh }
+
+  pub may_look_else : (k : ℕ) (id : TrxId) → ¬ (k ≡ p) → MayLook n k id → MayLook later k id
+  may_look_else k id other may = (may.0, part_else k other ∙ may.1, may.2, may.3, may.4)
+
+  pub may_look_here : (id : TrxId) → ((q : TrxPart) → (f q).opening ≡ q.opening) → MayLook n p id → MayLook later p id
+  may_look_here id same may =
+      let q = may.0 in (
+        record q { trx = f q.trx },
+        part_here q may.1,
+        subst (λ (o : TrxOpening). IsNode o p) (sym (same q.trx)) may.2,
+        subst (λ (o : TrxOpening). IsNode o id.node) (sym (same q.trx)) may.3,
+        may.4,
+      )
+
+  -- a version that was free stays so, where nothing is begun, or with another version
+  pub may_begin_here : (version : ℕ) → ((q : TrxPart) → (f q).opening ≡ q.opening) → ((q : TrxPart) (b : Begun) → IsIn b (f q).begun → IsIn b q.begun ⊎ (¬ (b.id.version ≡ version))) → MayBegin n p version → MayBegin later p version
+  may_begin_here version same keeps may =
+      let q = may.mine in
+      record {
+        mine = record q { trx = f q.trx };
+        holds = part_here q may.holds;
+        node = subst (λ (o : TrxOpening). IsNode o p) (sym (same q.trx)) may.node;
+        above = subst (λ (o : TrxOpening). o.base.version < version) (sym (same q.trx)) may.above;
+        within = subst (λ (o : TrxOpening). version ≤ o.base.version + o.begins) (sym (same q.trx)) may.within;
+        fresh = λ b has. ⊎_elim (λ (old : IsIn b q.trx.begun). may.fresh b old) (λ (other : ¬ (b.id.version ≡ version)). other) (keeps q.trx b has);
+      }
+
+-- one that is ACTIVE has drawn nothing
+pub drew_nothing : (n : NodeView) (p : ℕ) (id : TrxId) → Reached n → (may : MayTake (Trx (StorePrep p id)) n) → HasDrawnNothing may.0.trx.drew id
+drew_nothing n p id r may =
+    let w = run (core n.run.opening) r.backed.0 in
+    let i = law n.run.opening r.fair r.backed.0 r.backed.1 in
+    let is : part w p ≡ may.0 = r.backed.2 p may.0 may.1 in
+    let begun : HasBegun (w.trx.part p).begun id = subst (λ (x : CorePart). HasBegun x.trx.begun id) (sym is) may.2.1.0 in
+    let shown : Shows (w.trx.part p).rows id Active = subst (λ (x : CorePart). Shows x.trx.rows id Active) (sym is) may.2.1.1 in
+    subst (λ (x : CorePart). HasDrawnNothing x.trx.drew id) is ((i.trx.slots p id.slot).active id begun refl shown)
+
+-- so it may be freed
+pub may_free : (n : NodeView) (p : ℕ) (id : TrxId) → Reached n → MayTake (Trx (StorePrep p id)) n → MayTake (Trx (StoreEnd p id None)) n
+may_free n p id r may = (may.0, may.1, (may.2.0, ((may.2.1.0, inl may.2.1.1), drew_nothing n p id r may)))
+
+module _ (n later : NodeView) (p : ℕ) where
+  -- a transaction that began may be prepared
+  pub may_prepare : (version : ℕ) (b : Begun) → later ≡ with_trx n p (began b) → MayBegin n p version → MayTake (Trx (StorePrep p b.id)) later
+  may_prepare version b is may =
+      let q = may.mine in
+      (record q { trx = began b q.trx }, part_here n later p (began b) is q may.holds, (may.node, ((b.view, inl refl), shown_first b.id (shows Active b.id.version 0) q.trx.rows)))
+
+  -- and another begun with another version
+  pub may_begin_after : (version : ℕ) (b : Begun) → later ≡ with_trx n p (began b) → ¬ (b.id.version ≡ version) → MayBegin n p version → MayBegin later p version
+  may_begin_after version b is other may =
+      may_begin_here n later p (began b) is version (λ q. refl)
+      (λ q x has. ⊎_elim (λ (new : x ≡ b). inr (subst (λ (y : Begun). ¬ (y.id.version ≡ version)) (sym new) other)) (λ (old : IsIn x q.begun). inl old) has)
+      may
+
+  -- once prepared it may draw
+  pub may_draw : (id : TrxId) → later ≡ with_trx n p (prepared id) → Reached n → MayTake (Trx (StorePrep p id)) n → MayTake (Trx (DrawTso p id)) later
+  may_draw id is r may =
+      let q = may.0 in
+      (record q { trx = prepared id q.trx }, part_here n later p (prepared id) is q may.1, (may.2.0, (may.2.1.0, shown_first id (shows Prep id.version 0) q.trx.rows, drew_nothing n p id r may)))
+
+  -- and once it drew it may be published at that timestamp
+  pub may_publish : (id : TrxId) (cts : ℕ) → later ≡ with_trx n p (drew id cts) → MayTake (Trx (DrawTso p id)) n → MayTake (Trx (StoreEnd p id (Some cts))) later
+  may_publish id cts is may =
+      let q = may.0 in
+      (record q { trx = drew id cts q.trx }, part_here n later p (drew id cts) is q may.1, (may.2.0, ((may.2.1.0, inr may.2.1.1), inl refl)))
+
+-- before any step each primary may begin with each version of the run, and look where a transaction stands
+module _ (r : Run) (p : ℕ) (node : IsNode r.opening.trx p) where
+  first_part : part_in (first_node r).parts p ≡ Some (part (start r.opening) p)
+  first_part = part_in-whole (part (start r.opening)) (r.opening.trx.primaries + 1) p (omega (arith, node.1))
+
+  pub may_begin_first : (version : ℕ) → r.opening.trx.base.version < version → version ≤ r.opening.trx.base.version + r.opening.trx.begins → MayBegin (first_node r) p version
+  may_begin_first version above within = record { mine = part (start r.opening) p; holds = first_part; node = node; above = above; within = within; fresh = λ b has. absurd has }
+
+  pub may_look_first : (id : TrxId) → IsNode r.opening.trx id.node → id.slot < SLOTS → MayLook (first_node r) p id
+  may_look_first id of_node slot = (part (start r.opening) p, first_part, node, of_node, slot)
+
+-- and so it may after its part went to a node of its own, or another's did
+pub may_begin_alone : (n : NodeView) (p version : ℕ) → MayBegin n p version → MayBegin (node_of_one p n) p version
+may_begin_alone n p version may = record {
+  mine = may.mine;
+  holds = part_in-only (λ k. k == p) n.parts p ∙ ap (λ b. if b then part_in n.parts p else None) (eq-eqb p p refl) ∙ may.holds;
+  node = may.node;
+  above = may.above;
+  within = may.within;
+  fresh = may.fresh;
+}
+
+pub may_begin_without : (n : NodeView) (p k version : ℕ) → ¬ (k ≡ p) → MayBegin n k version → MayBegin (node_without p n) k version
+may_begin_without n p k version other may = record {
+  mine = may.mine;
+  holds = part_in-only (λ j. not (j == p)) n.parts k ∙ ap (λ b. if not b then part_in n.parts k else None) (ne_eqb k p other) ∙ may.holds;
+  node = may.node;
+  above = may.above;
+  within = may.within;
+  fresh = may.fresh;
+}
