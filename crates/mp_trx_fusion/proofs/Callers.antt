@@ -126,22 +126,27 @@ module _ (r : Run) (p : ℕ) (node : IsNode r.opening.trx p) where
   may_look_first id of_node slot = (part (start r.opening) p, first_part, node, of_node, slot)
 
 -- and so it may after its part went to a node of its own, or another's did
-pub may_begin_alone : (n : NodeView) (p version : ℕ) → MayBegin n p version → MayBegin (node_of_one p n) p version
-may_begin_alone n p version may = record {
-  mine = may.mine;
-  holds = part_in-only (λ k. k == p) n.parts p ∙ ap (λ b. if b then part_in n.parts p else None) (eq-eqb p p refl) ∙ may.holds;
-  node = may.node;
-  above = may.above;
-  within = may.within;
-  fresh = may.fresh;
-}
+module _ (n later : NodeView) (p : ℕ) where
+  pub may_begin_alone : later ≡ node_of_one p n → (version : ℕ) → MayBegin n p version → MayBegin later p version
+  may_begin_alone is version may = record {
+    mine = may.mine;
+    holds = ap (λ (v : NodeView). part_in v.parts p) is ∙ part_in-only (λ k. k == p) n.parts p ∙ ap (λ b. if b then part_in n.parts p else None) (eq-eqb p p refl) ∙ may.holds;
+    node = may.node;
+    above = may.above;
+    within = may.within;
+    fresh = may.fresh;
+  }
 
-pub may_begin_without : (n : NodeView) (p k version : ℕ) → ¬ (k ≡ p) → MayBegin n k version → MayBegin (node_without p n) k version
-may_begin_without n p k version other may = record {
-  mine = may.mine;
-  holds = part_in-only (λ j. not (j == p)) n.parts k ∙ ap (λ b. if not b then part_in n.parts k else None) (ne_eqb k p other) ∙ may.holds;
-  node = may.node;
-  above = may.above;
-  within = may.within;
-  fresh = may.fresh;
-}
+  pub may_begin_without : later ≡ node_without p n → (k version : ℕ) → ¬ (k ≡ p) → MayBegin n k version → MayBegin later k version
+  may_begin_without is k version other may = record {
+    mine = may.mine;
+    holds = ap (λ (v : NodeView). part_in v.parts k) is ∙ part_in-only (λ j. not (j == p)) n.parts k ∙ ap (λ b. if not b then part_in n.parts k else None) (ne_eqb k p other) ∙ may.holds;
+    node = may.node;
+    above = may.above;
+    within = may.within;
+    fresh = may.fresh;
+  }
+
+-- who may begin holds its part
+pub holds_part : (n : NodeView) (p version : ℕ) → MayBegin n p version → HoldsPart n p
+holds_part n p version may = (may.mine, may.holds, may.node)

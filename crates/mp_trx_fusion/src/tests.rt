@@ -104,3 +104,72 @@ fn commit_by_two<R: Threads + Sync>(
         { commit_many(shared, high, p + 1, after + 200) },
     )
 }
+
+/// Four threads do so for the primaries 1 to 4.
+fn commit_by_four<R: Threads + Sync>(
+    rt: &R,
+    shared: &Shared,
+    first: Node,
+    second: Node,
+    third: Node,
+    fourth: Node,
+) -> (((Node, [u64; 200]), (Node, [u64; 200])), ((Node, [u64; 200]), (Node, [u64; 200])))
+    requires run { (first.run ≡ shared.now) × (second.run ≡ shared.now) × (third.run ≡ shared.now) × (fourth.run ≡ shared.now) }
+    requires few { shared.now.opening.trx.begins ≤ SLOTS }
+    requires low { MayBeginEach first 1 0 200 × MayBeginEach second 2 200 200 }
+    requires high { MayBeginEach third 3 400 200 × MayBeginEach fourth 4 600 200 }
+    ensures run { (result.0.0.0.run ≡ shared.now) × (result.0.1.0.run ≡ shared.now) × (result.1.0.0.run ≡ shared.now) × (result.1.1.0.run ≡ shared.now) }
+    ensures frames { (result.0.1.0.frames ≡ second.frames) × (result.1.0.0.frames ≡ third.frames) × (result.1.1.0.frames ≡ fourth.frames) }
+    ensures part { HoldsPart result.0.0.0 1 }
+{
+    join(
+        rt,
+        move || -> ((Node, [u64; 200]), (Node, [u64; 200]))
+            requires { (first.run ≡ shared.now) × (second.run ≡ shared.now) × (shared.now.opening.trx.begins ≤ SLOTS) × MayBeginEach first 1 0 200 × MayBeginEach second 2 200 200 }
+            ensures { (result.0.0.run ≡ shared.entry.now) × (result.1.0.run ≡ shared.entry.now) × (result.1.0.frames ≡ second.frames) × HoldsPart result.0.0 1 }
+        { commit_by_two(rt, shared, first, second, 1, 0) },
+        move || -> ((Node, [u64; 200]), (Node, [u64; 200]))
+            requires { (third.run ≡ shared.now) × (fourth.run ≡ shared.now) × (shared.now.opening.trx.begins ≤ SLOTS) × MayBeginEach third 3 400 200 × MayBeginEach fourth 4 600 200 }
+            ensures { (result.0.0.run ≡ shared.entry.now) × (result.1.0.run ≡ shared.entry.now) × (result.0.0.frames ≡ third.frames) × (result.1.0.frames ≡ fourth.frames) }
+        { commit_by_two(rt, shared, third, fourth, 3, 400) },
+    )
+}
+
+/// Whether the timestamps are 1 to 800, each once.
+fn are_all(mut drawn: Vec<u64>) -> Result<bool, AllocError> {
+    drawn.sort()?;
+    for n in 0..800u16 {
+        if drawn.get(usize::from(n)) != Some(&(u64::from(n) + 1)) {
+            return Ok(false);
+        }
+    }
+    Ok(drawn.len() == 800)
+}
+
+#[test]
+fn four_threads_draw_each_timestamp_once(rt: HostRuntime) -> Result<(), Memory> {
+    let (shared, mut first) = Shared::open(rt.alloc(), FRESH, 4, 800)?;
+    let second = shared.split(&mut first, 2)?;
+    let third = shared.split(&mut first, 3)?;
+    let fourth = shared.split(&mut first, 4)?;
+    let (low, high) = commit_by_four(&rt, &shared, first, second, third, fourth);
+    let (first, second) = low;
+    let (third, fourth) = high;
+    let (mut node, one) = first;
+    let (second, two) = second;
+    let (third, three) = third;
+    let (fourth, four) = fourth;
+    shared.join(&mut node, second);
+    shared.join(&mut node, third);
+    shared.join(&mut node, fourth);
+    let newest = view(&shared, &mut node, 1);
+    let mut drawn = Vec::new(rt.alloc());
+    drawn.extend_from_slice(&one)?;
+    drawn.extend_from_slice(&two)?;
+    drawn.extend_from_slice(&three)?;
+    drawn.extend_from_slice(&four)?;
+    assert!(rt; are_all(drawn)?);
+    assert_eq!(rt; newest, 800);
+    shared.close(node);
+    Ok(())
+}
