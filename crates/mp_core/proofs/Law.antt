@@ -1,5 +1,5 @@
 -- The joint invariant holds wherever allowed events lead.
-use Rattle.std.proofs.Common.{◌≡◌, ℕ, List, [], ◌∷◌}
+use Rattle.std.proofs.Common.{List}
 use Rattle.mp_machine.specs.Machine.{run, AllAllowed, run_from, AllowedFrom}
 use Rattle.mp_machine.proofs.Time.{kept, in_time}
 use Rattle.mp_core_trx.proofs.Keeps.{keeps_inv as trx_keeps}

@@ -1,5 +1,5 @@
 -- The word of an event that may come is one of the table's words, and fits 64 bits.
-use Rattle.std.proofs.Common.{◌≡◌, ℕ, ◌^◌, ◌<◌, List, ◌∷◌, arith}
+use Rattle.std.proofs.Common.{◌^◌, ◌<◌, arith}
 use Rattle.mp_core_trx.proofs.Places.{placed as trx_placed, index_within as trx_within}
 use Rattle.mp_core_trx.proofs.Bounds.{content_fits as trx_content_fits}
 use Rattle.mp_core.specs.declared.words.TheConstants.{WORDS}

@@ -1,7 +1,7 @@
 -- The regions of words lie one after another.
-use Rattle.std.proofs.Common.{◌≡◌, ℕ, ◌+◌, ◌*◌, refl}
+use Rattle.std.proofs.Common.{◌≡◌, ◌+◌, ◌*◌, refl}
 use Rattle.mp_core_trx.specs.declared.opening.TheConstants.{SLOTS}
-use Rattle.mp_core_trx.specs.Events.{tso, tit, region}
+use Rattle.mp_core_trx.specs.Events.{tso, tit}
 use Rattle.mp_core.specs.declared.words.TheConstants.{TSO_WORD, SLOT_WORDS, LOCK_WORDS, LLSN_WORDS, DURABLE_WORDS, DOWN_WORDS, TURN_WORDS, REQUEST_WORDS, FLAG_WORDS, LEAST_WORDS, WORDS}
 use Rattle.mp_core.specs.World.{of_trx, index}
 

@@ -1,5 +1,5 @@
 -- The joint invariant, and the openings from which it holds.
-use Rattle.std.specs.Prelude.{ℕ, ◌+◌, ◌^◌, ◌<◌}
+use Rattle.std.specs.Prelude.{◌+◌, ◌^◌, ◌<◌}
 use Rattle.mp_core_trx.specs.World.{IsFair as IsTrxFair}
 use Rattle.mp_core_trx.specs.Invariant.{Inv as TrxInv}
 use Rattle.mp_core.specs.declared.opening.CoreOpening.{CoreOpening}

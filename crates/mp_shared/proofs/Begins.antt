@@ -1,5 +1,5 @@
 -- The table and the first node, before any step.
-use Rattle.std.proofs.Common.{◌≡◌, ℕ, zero, suc, ◌+◌, ◌<◌, ◌≤◌, List, [], ◌∷◌, Some, None, replicate, slice_set, slice_index_or, ◌⊎◌, Option, map, refl, sym, ap, ◌∙◌, subst, inl, inr, ⊎_elim, arith, lit≤}
+use Rattle.std.proofs.Common.{◌≡◌, ℕ, zero, suc, ◌+◌, ◌<◌, ◌≤◌, List, [], Some, None, replicate, slice_set, slice_index_or, ◌⊎◌, Option, map, refl, sym, ap, ◌∙◌, subst, inl, inr, ⊎_elim, arith, lit≤}
 use mathlib.Core.Option.{some}
 use lib.ListN.{get_elem?}
 use Rattle.mp_machine.specs.View.{View, part_in, whole}

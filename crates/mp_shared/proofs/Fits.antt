@@ -1,5 +1,5 @@
 -- What steps store and draw fits its word.
-use Rattle.std.proofs.Common.{◌≡◌, ℕ, ◌+◌, ◌%◌, ◌^◌, ◌<◌, Some, List, ◌∷◌, sym, ap, ◌∙◌, subst, arith}
+use Rattle.std.proofs.Common.{◌≡◌, ℕ, ◌+◌, ◌%◌, ◌^◌, ◌<◌, List, ap, ◌∙◌, subst, arith}
 use Rattle.mp_machine.specs.Machine.{run, AllAllowed}
 use Rattle.atomic_table.specs.Table.{Me}
 use Rattle.mp_machine.specs.View.{View}
@@ -11,7 +11,7 @@ use Rattle.mp_core_trx.specs.declared.event.TrxEvent.TheVariants.{DrawTso}
 use Rattle.mp_core_trx.specs.Lists.{pushed}
 use Rattle.mp_core_trx.specs.Parts.{shown_at}
 use Rattle.mp_core_trx.specs.Events.{row_of}
-use Rattle.mp_core_trx.specs.World.{TrxWorld, after, rows_in}
+use Rattle.mp_core_trx.specs.World.{after, rows_in}
 use Rattle.mp_core_trx.proofs.Frames.{rows_after, rows_are}
 use Rattle.mp_core_trx.proofs.SlotWords.{shown_here}
 use Rattle.mp_core_trx.proofs.Bounds.{clock_fits, shown_fits}
@@ -20,7 +20,7 @@ use Rattle.mp_core.specs.declared.part.CorePart.{CorePart}
 use Rattle.mp_core.specs.declared.event.CoreEvent.{CoreEvent}
 use Rattle.mp_core.specs.declared.event.CoreEvent.TheVariants.{Trx}
 use Rattle.mp_core.specs.World.{part, node_of, Allowed, core}
-use Rattle.mp_core.specs.Invariant.{IsFair, Inv}
+use Rattle.mp_core.specs.Invariant.{IsFair}
 use Rattle.mp_core.proofs.Law.{law, keeps_inv}
 
 module _ (o : CoreOpening) (fair : IsFair o) where

@@ -1,5 +1,5 @@
 -- What a node keeps for the slots of its parts goes on through a step.
-use Rattle.std.proofs.Common.{◌≡◌, ℕ, ◌+◌, ◌<◌, ◌≤◌, ◌⊎◌, ◌==◌, nat_lt, Bool, true, false, List, ◌∷◌, length, Option, Some, None, if◌then◌else◌, slice_index_or, refl, sym, ap, ◌∙◌, subst, inl, ⊎_elim, arith, eq-eqb, ne_eqb}
+use Rattle.std.proofs.Common.{◌≡◌, ℕ, ◌≤◌, ◌⊎◌, nat_lt, Bool, true, false, List, ◌∷◌, length, Option, Some, None, if◌then◌else◌, slice_index_or, sym, ap, ◌∙◌, subst, inl, ⊎_elim, arith, ne_eqb}
 use mathlib.Core.Logic.{dite}
 use native.Mathlib.Decide.{ℕ_discrete}
 use Rattle.mp_machine.specs.View.{View, part_in, with_part}

@@ -1,10 +1,9 @@
 -- A primary whose part a node holds has a number from 1 to 8.
-use Rattle.std.proofs.Common.{◌≡◌, ℕ, ◌≤◌, List, Option, Some, sym, ap, ◌∙◌, subst, arith}
+use Rattle.std.proofs.Common.{◌≡◌, ℕ, ◌≤◌, Some, sym, ap, ◌∙◌, subst, arith}
 use Rattle.mp_machine.specs.Machine.{run}
-use Rattle.mp_machine.specs.View.{View, part_in}
+use Rattle.mp_machine.specs.View.{part_in}
 use Rattle.mp_core_trx.specs.declared.opening.TrxOpening.{TrxOpening}
 use Rattle.mp_core_trx.specs.Events.{IsNode}
-use Rattle.mp_core.specs.declared.opening.CoreOpening.{CoreOpening}
 use Rattle.mp_core.specs.declared.part.CorePart.{CorePart}
 use Rattle.mp_core.specs.World.{core}
 use Rattle.mp_core.proofs.Law.{law}

@@ -4,7 +4,7 @@ use Rattle.atomic_table.specs.Seated.{TableId}
 use Rattle.atomic_table.specs.Table.{Me}
 use Rattle.mp_machine.specs.Machine.{run, AllAllowed}
 use Rattle.mp_machine.specs.View.{View, part_in, with_part}
-use Rattle.mp_machine.specs.Rule.{Backed, Word, CanMake, Came, Made, Stored}
+use Rattle.mp_machine.specs.Rule.{Backed, Word, CanMake, Came, Made}
 use Rattle.mp_machine.proofs.Adapter.{backed}
 use Rattle.mp_core.specs.declared.words.TheConstants.{WORDS}
 use Rattle.mp_core.specs.declared.opening.CoreOpening.{CoreOpening}
@@ -14,7 +14,7 @@ use Rattle.mp_core.specs.World.{IsPlace, node_of, place_of, index, part, made, A
 use Rattle.mp_core.specs.Invariant.{IsFair}
 use Rattle.mp_core.proofs.Law.{law}
 use Rattle.mp_core.proofs.Placed.{placed, index_within}
-use Rattle.mp_shared.specs.Nodes.{Run, NodeView, MayTake, changed, turned, Took, TookUnseen}
+use Rattle.mp_shared.specs.Nodes.{Run, NodeView, MayTake, changed, Took}
 use Rattle.mp_shared.specs.Slots.{used_by, IsKept}
 use Rattle.mp_shared.proofs.Kept.{TakesNextSlot, in_order_made, in_order_turned, counted_turned}
 

@@ -125,7 +125,9 @@ impl Shared {
     }
 
     /// Ends the run: the table's memory goes back.
-    pub fn close(self, _node: Node)
-        requires { _node.run ≡ self }
-    {}
+    pub fn close(self, node: Node)
+        requires { node.run ≡ self }
+    {
+        drop(node);
+    }
 }

@@ -97,9 +97,10 @@ impl Shared {
         requires step { MayTake (Trx (DrawTso p id)) node.old }
         ensures { TookNext (Trx (DrawTso p id)) node.old result node.new }
     {
-        self.table
-            .fetch_add::<Brand, (u8, TrxId)>(&mut node.seat, TSO_WORD, 1, &(p, id))
-            + 1
+        let before = self
+            .table
+            .fetch_add::<Brand, (u8, TrxId)>(&mut node.seat, TSO_WORD, 1, &(p, id));
+        before + 1
     }
 
     /// Ends the transaction: its slot shows COMMITTED with its timestamp, or FREE.
@@ -122,10 +123,7 @@ impl Shared {
         requires step { MayTake (Trx (LoadTit p of slot)) node.old }
         ensures { Took (Trx (LoadTit p of slot)) node.old result node.new }
     {
-        self.table.load::<Brand, (u8, u8, u16)>(
-            &mut node.seat,
-            slot_word(of, slot),
-            &(p, of, slot),
-        )
+        self.table
+            .load::<Brand, (u8, u8, u16)>(&mut node.seat, slot_word(of, slot), &(p, of, slot))
     }
 }

@@ -1,14 +1,12 @@
 -- A transaction begins: it may, and what the node is then.
-use Rattle.std.proofs.Common.{◌≡◌, ℕ, zero, suc, ◌+◌, ◌<◌, ◌≤◌, max, List, [], ◌∷◌, length, Option, Some, None, Bool, true, false, nat_lt, if◌then◌else◌, refl, sym, ap, ◌∙◌, subst, arith}
+use Rattle.std.proofs.Common.{◌≡◌, ℕ, zero, suc, ◌+◌, ◌<◌, ◌≤◌, List, [], ◌∷◌, length, Option, Some, None, Bool, true, false, nat_lt, if◌then◌else◌, refl, sym, ap, ◌∙◌, subst, arith}
 use Rattle.std.proofs.lemmas.Bool.{ltb-true, ltb-false}
 use Rattle.mp_machine.specs.Machine.{run}
 use Rattle.mp_machine.specs.View.{View, part_in, with_part}
 use Rattle.mp_machine.proofs.Views.{part_in-with_here}
-use Rattle.mp_model.specs.declared.ids.TrxId.{TrxId}
 use Rattle.mp_core_trx.specs.declared.opening.TheConstants.{SLOTS}
 use Rattle.mp_core_trx.specs.declared.opening.TrxOpening.{TrxOpening}
 use Rattle.mp_core_trx.specs.declared.part.Begun.{Begun}
-use Rattle.mp_core_trx.specs.declared.part.TrxPart.{TrxPart}
 use Rattle.mp_core_trx.specs.declared.event.TrxEvent.TheVariants.{LoadTso, StoreActive}
 use Rattle.mp_core_trx.specs.Lists.{IsIn}
 use Rattle.mp_core_trx.specs.Parts.{trx, begin_of, newest}
@@ -20,7 +18,7 @@ use Rattle.mp_core.specs.World.{part, made, core}
 use Rattle.mp_core.proofs.Law.{law}
 use Rattle.mp_shared.specs.Nodes.{NodeView, Reached, MayTake, changed, Took, TookUnseen}
 use Rattle.mp_shared.specs.Slots.{used_by, slot_after, next_slot, CanUse}
-use Rattle.mp_trx_fusion.specs.Calls.{with_trx, saw, began, MayBegin}
+use Rattle.mp_trx_fusion.specs.Calls.{with_trx, began, MayBegin}
 use Rattle.mp_trx_fusion.proofs.Sights.{newest_seen}
 
 with_part_twice : {P : Type 0} (v : View P) (n : ℕ) (p q : P) → with_part (with_part v n p) n q ≡ with_part v n q

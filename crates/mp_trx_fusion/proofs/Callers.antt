@@ -1,7 +1,7 @@
 -- What may come after each call: so a caller goes from one call to the next.
-use Rattle.std.proofs.Common.{◌≡◌, ℕ, ◌+◌, ◌<◌, ◌≤◌, ◌⊎◌, List, [], ◌∷◌, Option, Some, None, Bool, true, false, not, ◌==◌, if◌then◌else◌, refl, sym, ap, ◌∙◌, subst, inl, inr, ⊎_elim, arith, eq-eqb, ne_eqb}
+use Rattle.std.proofs.Common.{◌≡◌, ℕ, ◌+◌, ◌<◌, ◌≤◌, ◌⊎◌, List, ◌∷◌, Option, Some, None, not, ◌==◌, if◌then◌else◌, refl, sym, ap, ◌∙◌, subst, inl, inr, ⊎_elim, arith, eq-eqb, ne_eqb}
 use Rattle.mp_machine.specs.Machine.{run}
-use Rattle.mp_machine.specs.View.{View, part_in, only, whole}
+use Rattle.mp_machine.specs.View.{part_in}
 use Rattle.mp_machine.proofs.Views.{part_in-with_here, part_in-with_else, part_in-only, part_in-whole}
 use Rattle.mp_model.specs.declared.ids.TrxId.{TrxId}
 use Rattle.mp_core_trx.specs.declared.opening.TheConstants.{SLOTS}
@@ -22,7 +22,7 @@ use Rattle.mp_core.specs.declared.event.CoreEvent.TheVariants.{Trx}
 use Rattle.mp_core.specs.World.{node_of, part, start, core}
 use Rattle.mp_core.proofs.Law.{law}
 use Rattle.mp_shared.specs.Nodes.{NodeView, Run, Reached, HoldsPart, MayTake, changed, first_node, node_without, node_of_one}
-use Rattle.mp_trx_fusion.specs.Calls.{with_trx, began, prepared, drew, ended_with, loaded_slot, MayBegin, MayLook}
+use Rattle.mp_trx_fusion.specs.Calls.{with_trx, began, prepared, drew, MayBegin, MayLook}
 
 shown_first : (id : TrxId) (x : Shown) (rows : List SlotRow) → shown_at (row_of id x ∷ rows) id.slot ≡ x
 shown_first id x rows = ap (λ b. if b then x else shown_at rows id.slot) (eq-eqb id.slot id.slot refl)

@@ -1,3 +1,5 @@
 pub mod Sights
 pub mod Beginnings
+pub mod Standing
 pub mod Callers
+mod Worked

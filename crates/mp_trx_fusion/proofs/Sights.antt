@@ -1,12 +1,11 @@
 -- What a step on the timestamp oracle tells: the oracle as it was, against what the node knew.
-use Rattle.std.proofs.Common.{◌≡◌, ℕ, ◌+◌, ◌<◌, ◌≤◌, List, Option, Some, None, refl, sym, ap, ◌∙◌, subst, arith}
+use Rattle.std.proofs.Common.{◌≡◌, ℕ, ◌≤◌, Option, Some, None, refl, sym, ap, ◌∙◌, subst, arith}
 use Rattle.mp_machine.specs.Machine.{run}
 use Rattle.mp_machine.specs.View.{part_in}
 use Rattle.mp_core_trx.specs.declared.opening.TrxOpening.{TrxOpening}
 use Rattle.mp_core_trx.specs.declared.part.TrxPart.{TrxPart}
-use Rattle.mp_core_trx.specs.declared.event.TrxEvent.TheVariants.{LoadTso, DrawTso}
+use Rattle.mp_core_trx.specs.declared.event.TrxEvent.TheVariants.{LoadTso}
 use Rattle.mp_core_trx.specs.Parts.{greatest, newest}
-use Rattle.mp_core_trx.specs.Events.{IsNode}
 use Rattle.mp_core_trx.specs.World.{begun_in, seen_in, loaded_in}
 use Rattle.mp_core_trx.proofs.Sight.{greatest_drawn}
 use Rattle.mp_core_trx.proofs.Law.{clock_exact}
@@ -16,8 +15,8 @@ use Rattle.mp_core.specs.declared.event.CoreEvent.TheVariants.{Trx}
 use Rattle.mp_core.specs.World.{CoreWorld, part, core}
 use Rattle.mp_core.specs.Invariant.{IsFair, Inv}
 use Rattle.mp_core.proofs.Law.{law}
-use Rattle.mp_shared.specs.Nodes.{NodeView, Took, TookNext}
-use Rattle.mp_trx_fusion.specs.Calls.{Knows, KnowsLess, HoldsAll, trx_in, clock_of, IsNext}
+use Rattle.mp_shared.specs.Nodes.{NodeView, Took}
+use Rattle.mp_trx_fusion.specs.Calls.{Knows, HoldsAll, trx_in, clock_of}
 
 -- a part of transactions that is held is the world's
 of_world : (w : CoreWorld) (n : ℕ) (x : Option CorePart) → ((q : CorePart) → x ≡ Some q → part w n ≡ q) → (p : TrxPart) → trx_in x ≡ Some p → w.trx.part n ≡ p

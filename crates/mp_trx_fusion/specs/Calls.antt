@@ -14,7 +14,7 @@ use Rattle.mp_core_trx.specs.Events.{IsNode, ended, row_of, load_of}
 use Rattle.mp_core.specs.declared.part.CorePart.{CorePart}
 use Rattle.mp_core.specs.declared.event.CoreEvent.{CoreEvent}
 use Rattle.mp_core.specs.World.{part, core}
-use Rattle.mp_shared.specs.Nodes.{NodeView, HoldsPart, changed}
+use Rattle.mp_shared.specs.Nodes.{NodeView, changed}
 
 -- the node after a change of the transactions of one primary, whose part it holds; no other part changes
 abbrev pub with_trx : NodeView → ℕ → (TrxPart → TrxPart) → NodeView

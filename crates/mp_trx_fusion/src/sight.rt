@@ -2,7 +2,7 @@
 ghost use Rattle.std.specs.Prelude.{◌≡◌, ◌≤◌, Some, IfOk, IfErr, IsOk};
 ghost use Rattle.mp_core_trx.specs.declared.opening.TheConstants.{SLOTS};
 ghost use Rattle.mp_shared.specs.Nodes.{HoldsPart, Reached};
-ghost use Rattle.mp_shared.specs.Slots.{next_slot};
+ghost use Rattle.mp_shared.specs.Slots.{next_slot, CanUse};
 ghost use Rattle.mp_trx_fusion.specs.Calls.{with_trx, saw, began, Knows, HoldsAll, clock_of, MayBegin};
 
 use mp_core_trx::Begun;
@@ -29,7 +29,7 @@ pub fn view(shared: &Shared, node: &mut Node, p: u8) -> u64
 pub fn begin(shared: &Shared, node: &mut Node, p: u8, version: u32) -> Result<Begun, NotYet>
     requires run { node.old.run ≡ shared.now }
     requires may { MayBegin node.old p version }
-    ensures begun { IfOk result (λ b. (b.id.node ≡ p) × (b.id.version ≡ version) × (next_slot node.old p ≡ Some b.id.slot)) }
+    ensures begun { IfOk result (λ b. (b.id.node ≡ p) × (b.id.version ≡ version) × (next_slot node.old p ≡ Some b.id.slot) × CanUse node.old p b.id.slot) }
     ensures becomes { IfOk result (λ b. node.new ≡ with_trx node.old p (began b)) }
     ensures newest { IfOk result (λ b. Knows node.old p b.view) }
     ensures exact { IfOk result (λ b. HoldsAll node.old → b.view ≡ clock_of node.old) }

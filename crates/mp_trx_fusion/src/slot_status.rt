@@ -3,7 +3,7 @@ ghost use Rattle.std.specs.Prelude.{◌≡◌, ◌<◌, ℕ};
 ghost use Rattle.mp_core_trx.specs.Words.{shown_of};
 ghost use Rattle.mp_shared.specs.Nodes.{Reached};
 ghost use Rattle.mp_trx_fusion.specs.Calls.{with_trx, loaded_slot, MayLook};
-ghost use Rattle.mp_trx_fusion.specs.Statuses.{status_of};
+ghost use Rattle.mp_trx_fusion.specs.Statuses.{status_of, Stood};
 
 use mp_core_trx::{Shown, SlotTag};
 use mp_model::TrxId;
@@ -35,11 +35,13 @@ fn shown_status(shown: Shown, id: TrxId) -> SlotStatus
     }
 }
 
-/// Where the transaction `id` of any primary stands, by its slot's word, which the part of `p` notes.
+/// Where the transaction `id` of any primary stands, by its slot's word, which the part of `p` notes: ACTIVE or FREE where
+/// it had drawn no timestamp as the word was loaded, COMMITTED with the timestamp that it drew.
 pub fn status(shared: &Shared, node: &mut Node, p: u8, id: TrxId) -> SlotStatus
     requires run { node.old.run ≡ shared.now }
     requires may { MayLook node.old p id }
     ensures shown { (word : ℕ) × (result ≡ status_of id (shown_of word)) × (node.new ≡ with_trx node.old p (loaded_slot id word)) }
+    ensures stood { Stood node.old id result }
     ensures reached { Reached node.new }
 {
     let word = shared.load_tit(node, p, id.node, id.slot);

@@ -113,7 +113,10 @@ fn commit_by_four<R: Threads + Sync>(
     second: Node,
     third: Node,
     fourth: Node,
-) -> (((Node, [u64; 200]), (Node, [u64; 200])), ((Node, [u64; 200]), (Node, [u64; 200])))
+) -> (
+    ((Node, [u64; 200]), (Node, [u64; 200])),
+    ((Node, [u64; 200]), (Node, [u64; 200])),
+)
     requires run { (first.run ≡ shared.now) × (second.run ≡ shared.now) × (third.run ≡ shared.now) × (fourth.run ≡ shared.now) }
     requires few { shared.now.opening.trx.begins ≤ SLOTS }
     requires low { MayBeginEach first 1 0 200 × MayBeginEach second 2 200 200 }

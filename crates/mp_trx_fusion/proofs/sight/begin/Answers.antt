@@ -1,4 +1,4 @@
-use Rattle.std.proofs.Common.{refl, sym, ap, ◌∙◌, rules}
+use Rattle.std.proofs.Common.{sym, ◌∙◌}
 use Rattle.mp_trx_fusion.proofs.Sights.{newest_seen, exactly}
 use Rattle.mp_trx_fusion.proofs.Beginnings.{some_left, may_store, next_stays, becomes}
 use Rattle.mp_trx_fusion.proofs.sight.begin.Goals as goal

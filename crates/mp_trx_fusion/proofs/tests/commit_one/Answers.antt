@@ -1,4 +1,4 @@
-use Rattle.std.proofs.Common.{◌≡◌, Some, refl, sym, ◌∙◌, inl}
+use Rattle.std.proofs.Common.{Some, refl, sym, ◌∙◌, inl}
 use Rattle.mp_trx_fusion.specs.Calls.{prepared, drew, ended_with}
 use Rattle.mp_trx_fusion.proofs.Callers.{part_here, may_prepare, may_draw, may_publish, may_begin_after, may_begin_here}
 use Rattle.mp_trx_fusion.proofs.tests.commit_one.Goals as goal

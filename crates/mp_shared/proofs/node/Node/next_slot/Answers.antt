@@ -1,5 +1,5 @@
-use Rattle.std.proofs.Common.{subst, ap, ◌∙◌}
-use Rattle.mp_shared.specs.Nodes.{NodeView, Reached}
+use Rattle.std.proofs.Common.{subst}
+use Rattle.mp_shared.specs.Nodes.{Reached}
 use Rattle.mp_shared.proofs.Numbered.{numbered}
 use Rattle.mp_shared.proofs.node.Node.next_slot.Goals as goal
 

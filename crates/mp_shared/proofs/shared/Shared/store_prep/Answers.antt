@@ -1,8 +1,8 @@
-use Rattle.std.proofs.Common.{◌≡◌, ◌<◌, refl, sym, ap, ◌∙◌, arith, subst}
+use Rattle.std.proofs.Common.{refl}
 use Rattle.mp_core_trx.specs.declared.event.TrxEvent.TheVariants.{StorePrep}
 use Rattle.mp_core.specs.declared.event.CoreEvent.TheVariants.{Trx}
-use Rattle.mp_shared.proofs.Steps.{one_table, allowed_there, place, within, fair, can, kept_turned, kept_same, took}
-use Rattle.mp_shared.proofs.Fits.{stored_fits, draw_word}
+use Rattle.mp_shared.proofs.Steps.{one_table, allowed_there, place, within, fair, can, kept_same, took}
+use Rattle.mp_shared.proofs.Fits.{stored_fits}
 use Rattle.mp_shared.proofs.shared.Shared.store_prep.Goals as goal
 
 pub slot_word-requires : goal.slot_word-requires
