@@ -11,7 +11,7 @@ use Rattle.mp_core.specs.World.{CorePlace, of_trx, CoreWorld, IsPlace, index, no
 apart : (a b : CorePlace) → IsPlace a → IsPlace b → index a ≡ index b → a ≡ b
 apart (of_trx a) (of_trx b) x y same = ap of_trx (trx_apart a b x y same)
 
-part_here : (w : CoreWorld) (e : CoreEvent) → part (after w e) (node_of e) ≡ made e (content w (place_of e)) (part w (node_of e))
+part_here : (w : CoreWorld) (e : CoreEvent) → part (after w e) (node_of e) ≡ made e (content w (place_of e)) tt (part w (node_of e))
 part_here w (Trx e) = λ i. record { trx = trx_part_here w.trx e i }
 
 part_else : (w : CoreWorld) (e : CoreEvent) (n : ℕ) → ¬ (n ≡ node_of e) → part (after w e) n ≡ part w n

@@ -9,6 +9,13 @@ use Rattle.mp_core.specs.declared.part.CorePart.{CorePart}
 use Rattle.mp_core.specs.declared.event.CoreEvent.{CoreEvent}
 use Rattle.mp_core.specs.declared.event.CoreEvent.TheVariants.{Trx}
 
+-- what a slot of the table holds, and what an event notes: nothing yet
+abbrev pub Frame : Type 0
+Frame = Unit {0}
+
+abbrev pub Note : Type 0
+Note = Unit {0}
+
 -- a place by its component
 pub data CorePlace : Type 0 where
   of_trx : Place → CorePlace
@@ -49,15 +56,15 @@ place_of (Trx e) = of_trx (trx_place_of e)
 abbrev pub word_after : CoreEvent → ℕ → ℕ
 word_after (Trx e) found = trx_word_after e found
 
--- an event changes the part in its component
-abbrev pub made : CoreEvent → ℕ → CorePart → CorePart
-made (Trx e) found p = record { trx = trx_made e found p.trx }
+-- an event changes the part in its component, by the word found and the note
+abbrev pub made : CoreEvent → ℕ → Note → CorePart → CorePart
+made (Trx e) found x p = record { trx = trx_made e found p.trx }
 
 abbrev pub Allowed : CorePart → CoreEvent → Type 0
 Allowed p (Trx e) = TrxAllowed p.trx e
 
 -- the machine: no slots and no notes yet
-abbrev pub core : CoreOpening → Machine (Unit {0}) CorePart CoreEvent CorePlace (Unit {0}) CoreWorld
+abbrev pub core : CoreOpening → Machine Frame CorePart CoreEvent CorePlace Note CoreWorld
 core opening = record {
   nodes = opening.trx.primaries + 1;
   start = start opening;
@@ -72,6 +79,6 @@ core opening = record {
   word_after = word_after;
   act = λ _ _. keeps;
   note = λ _ _. tt;
-  made = λ e found _ p. made e found p;
+  made = made;
   Allowed = λ p _ e. Allowed p e;
 }

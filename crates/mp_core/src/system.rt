@@ -21,12 +21,12 @@ impl System for Core {
 
     type Event = CoreEvent;
 
-    ghost use Rattle.mp_core.specs.World.{CorePlace, CoreWorld, core};
+    ghost use Rattle.mp_core.specs.World.{CorePlace, CoreWorld, Note as CoreNote, core};
     ghost use Rattle.mp_core.specs.CoreLaws.{laws as core_laws};
 
     ghost Place = { CorePlace };
 
-    ghost Note = { Unit {0} };
+    ghost Note = { CoreNote };
 
     ghost World = { CoreWorld };
 

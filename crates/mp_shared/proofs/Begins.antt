@@ -10,7 +10,7 @@ use Rattle.mp_core_trx.specs.Events.{tso, tit}
 use Rattle.mp_core.specs.declared.words.TheConstants.{WORDS}
 use Rattle.mp_core.specs.declared.opening.CoreOpening.{CoreOpening}
 use Rattle.mp_core.specs.declared.part.CorePart.{CorePart}
-use Rattle.mp_core.specs.World.{CorePlace, of_trx, start, part, IsPlace, index, content, core}
+use Rattle.mp_core.specs.World.{Frame, CorePlace, of_trx, start, part, IsPlace, index, content, core}
 use Rattle.mp_core.specs.Invariant.{IsFair}
 use Rattle.mp_core.proofs.Placed.{index_within}
 use Rattle.mp_shared.specs.Slots.{used_by, InOrder, IsKept}
@@ -36,7 +36,7 @@ words_are o count all (of_trx (tit n slot)) is =
     let within = index_within (of_trx (tit n slot)) is in
     at_others count o.trx.base.ts (index (of_trx (tit n slot))) (omega arith) (omega (arith, within, all))
 
-pub opens : (o : CoreOpening) (count : ℕ) (words : List ℕ) (slots : List (Unit {0})) → count ≡ WORDS → words ≡ slice_set (replicate count 0) 0 o.trx.base.ts → slots ≡ [] → Opens (core o) words slots
+pub opens : (o : CoreOpening) (count : ℕ) (words : List ℕ) (slots : List Frame) → count ≡ WORDS → words ≡ slice_set (replicate count 0) 0 o.trx.base.ts → slots ≡ [] → Opens (core o) words slots
 opens o count words slots all is none = record {
   words_are = λ a placed. ap (λ ws. get_elem? ws (index a)) is ∙ words_are o count all a placed;
   slots_are = ap (map some) none;

@@ -19,7 +19,7 @@ use Rattle.mp_core.specs.declared.opening.CoreOpening.{CoreOpening}
 use Rattle.mp_core.specs.declared.part.CorePart.{CorePart}
 use Rattle.mp_core.specs.declared.event.CoreEvent.{CoreEvent}
 use Rattle.mp_core.specs.declared.event.CoreEvent.TheVariants.{Trx}
-use Rattle.mp_core.specs.World.{part, node_of, Allowed, core}
+use Rattle.mp_core.specs.World.{Frame, part, node_of, Allowed, core}
 use Rattle.mp_core.specs.Invariant.{IsFair}
 use Rattle.mp_core.proofs.Law.{law, keeps_inv}
 
@@ -29,7 +29,7 @@ module _ (o : CoreOpening) (fair : IsFair o) where
   draw_word n id es all = let small = clock_fits o.trx (run (core o) es).trx (law o fair es all.1).trx fair.trx in omega arith
 
   -- what a draw found leaves room for one more
-  pub drawn_fits : (n : ℕ) (id : TrxId) (before after : Me (Unit {0}) (View CorePart)) (found : ℕ) → Made (core o) (Trx (DrawTso n id)) before found after → found < 2 ^ 38
+  pub drawn_fits : (n : ℕ) (id : TrxId) (before after : Me Frame (View CorePart)) (found : ℕ) → Made (core o) (Trx (DrawTso n id)) before found after → found < 2 ^ 38
   drawn_fits n id before after found told =
       let came = told.4 in
       let small = clock_fits o.trx (run (core o) came.events).trx (law o fair came.events came.allowed.1).trx fair.trx in

@@ -19,7 +19,7 @@ use Rattle.mp_core_trx.proofs.SlotWords.{two_tags}
 use Rattle.mp_core.specs.declared.part.CorePart.{CorePart}
 use Rattle.mp_core.specs.declared.event.CoreEvent.{CoreEvent}
 use Rattle.mp_core.specs.declared.event.CoreEvent.TheVariants.{Trx}
-use Rattle.mp_core.specs.World.{made, Allowed}
+use Rattle.mp_core.specs.World.{Note, made, Allowed}
 use Rattle.mp_shared.specs.Slots.{used_by, slot_after, InOrder}
 
 -- the slot of an open transaction is below those that were not used
@@ -61,8 +61,8 @@ order_made (LoadTit n whose slot) found p h may next = record { few = h.few; fre
 abbrev pub TakesNextSlot : CoreEvent → CorePart → Type 0
 TakesNextSlot (Trx e) p = TakesNext e p.trx
 
-pub in_order_made : (e : CoreEvent) (found : ℕ) (p : CorePart) → InOrder p.trx → Allowed p e → TakesNextSlot e p → InOrder (made e found p).trx
-in_order_made (Trx e) found p = order_made e found p.trx
+pub in_order_made : (e : CoreEvent) (found : ℕ) (x : Note) (p : CorePart) → InOrder p.trx → Allowed p e → TakesNextSlot e p → InOrder (made e found x p).trx
+in_order_made (Trx e) found x p = order_made e found p.trx
 
 -- one part of a view changes
 module _ (parts : View CorePart) (n : ℕ) (q next : CorePart) (has : part_in parts n ≡ Some q) where

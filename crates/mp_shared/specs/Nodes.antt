@@ -8,7 +8,7 @@ use Rattle.mp_core_trx.specs.Events.{IsNode}
 use Rattle.mp_core.specs.declared.opening.CoreOpening.{CoreOpening}
 use Rattle.mp_core.specs.declared.part.CorePart.{CorePart}
 use Rattle.mp_core.specs.declared.event.CoreEvent.{CoreEvent}
-use Rattle.mp_core.specs.World.{node_of, made, Allowed, core}
+use Rattle.mp_core.specs.World.{Frame, Note, node_of, made, Allowed, core}
 use Rattle.mp_core.specs.Invariant.{IsFair}
 
 -- what a run begins from
@@ -24,7 +24,7 @@ pub record Run : Type 0 where
 pub record NodeView : Type 0 where
   pub run : Run
   pub parts : View CorePart
-  pub frames : List (ℕ × (Unit {0}))
+  pub frames : List (ℕ × Frame)
 
 -- the node that holds the parts of all primaries, before any step
 abbrev pub first_node : Run → NodeView
@@ -54,9 +54,9 @@ abbrev pub changed : View CorePart → ℕ → (CorePart → CorePart) → Optio
 changed v n f (Some p) = with_part v n (f p)
 changed v n f None = v
 
--- the node after a step that found this word: the part of the step's primary is what the step makes of it
-abbrev pub turned : NodeView → CoreEvent → ℕ → NodeView
-turned n e found = record { run = n.run; parts = changed n.parts (node_of e) (made e found) (part_in n.parts (node_of e)); frames = n.frames }
+-- the node after a step that found this word and made this note: the part of the step's primary is what the step makes of it
+abbrev pub turned : NodeView → CoreEvent → ℕ → Note → NodeView
+turned n e found x = record { run = n.run; parts = changed n.parts (node_of e) (made e found x) (part_in n.parts (node_of e)); frames = n.frames }
 
 -- What a node knows holds in some world that can be reached, from an opening whose numbers fit
 pub record Reached (n : NodeView) : Type 0 where
@@ -65,8 +65,9 @@ pub record Reached (n : NodeView) : Type 0 where
 
 -- The node took the step, and the step found this word: steps came before it, each allowed when it came, whose world agrees with what the node knew and has this word there
 pub record Took (e : CoreEvent) (before : NodeView) (found : ℕ) (after : NodeView) : Type 0 where
-  pub becomes : after ≡ turned before e found
-  pub came : Came (core before.run.opening) e (before.parts, before.frames) found tt (after.parts, after.frames)
+  pub note : Note
+  pub becomes : after ≡ turned before e found note
+  pub came : Came (core before.run.opening) e (before.parts, before.frames) found note (after.parts, after.frames)
   pub reached : Reached after
 
 -- the same of a step that does not tell what it found

@@ -64,10 +64,10 @@ some_left v p version r may none few =
 module _ (p version slot view : ℕ) (before mid : NodeView) (may : MayBegin before p version) (load : Took (Trx (LoadTso p)) before view mid) where
   -- its part once it loaded the oracle
   abbrev loaded_part : CorePart
-  loaded_part = made (Trx (LoadTso p)) view may.mine
+  loaded_part = made (Trx (LoadTso p)) view load.note may.mine
 
   mid_parts : mid.parts ≡ with_part before.parts p loaded_part
-  mid_parts = ap (λ (x : NodeView). x.parts) load.becomes ∙ ap (changed before.parts p (made (Trx (LoadTso p)) view)) may.holds
+  mid_parts = ap (λ (x : NodeView). x.parts) load.becomes ∙ ap (changed before.parts p (made (Trx (LoadTso p)) view load.note)) may.holds
 
   mid_holds : part_in mid.parts p ≡ Some loaded_part
   mid_holds = ap (λ v. part_in v p) mid_parts ∙ part_in-with_here before.parts p loaded_part may.mine may.holds
@@ -89,7 +89,7 @@ module _ (p version slot view : ℕ) (before mid : NodeView) (may : MayBegin bef
   pub becomes : (after : NodeView) → TookUnseen (Trx (StoreActive p (trx p slot version))) mid after → after ≡ with_trx before p (began (begin_of (trx p slot version) view))
   becomes after store =
       let e = Trx (StoreActive p (trx p slot version)) in
-      let f = made e store.0 in
+      let f = made e store.0 store.1.note in
       let now : CorePart = record { trx = began (begin_of (trx p slot version) view) may.mine.trx } in
       let same : f loaded_part ≡ now = λ i. record { trx = record (began (begin_of (trx p slot version) view) may.mine.trx) { begun = begin_of (trx p slot version) (view_is i) ∷ may.mine.trx.begun } } in
       let parts : after.parts ≡ with_part before.parts p now =
