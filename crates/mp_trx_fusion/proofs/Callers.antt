@@ -11,10 +11,11 @@ use Rattle.mp_core_trx.specs.declared.slot.Shown.{Shown}
 use Rattle.mp_core_trx.specs.declared.part.Begun.{Begun}
 use Rattle.mp_core_trx.specs.declared.part.SlotRow.{SlotRow}
 use Rattle.mp_core_trx.specs.declared.part.TrxPart.{TrxPart}
-use Rattle.mp_core_trx.specs.declared.event.TrxEvent.TheVariants.{StorePrep, DrawTso, StoreEnd}
+use Rattle.mp_core_trx.specs.declared.event.TrxEvent.{TrxEvent}
+use Rattle.mp_core_trx.specs.declared.event.TrxEvent.TheVariants.{LoadTso, StoreActive, StorePrep, DrawTso, StoreEnd, LoadTit}
 use Rattle.mp_core_trx.specs.Lists.{IsIn}
 use Rattle.mp_core_trx.specs.Parts.{shown_at, Shows, HasBegun, HasDrawnNothing}
-use Rattle.mp_core_trx.specs.Events.{IsNode, row_of}
+use Rattle.mp_core_trx.specs.Events.{IsNode, node_of as trx_node_of, row_of, Allowed as TrxAllowed}
 use Rattle.mp_core_trx.specs.Words.{shows}
 use Rattle.mp_core.specs.declared.part.CorePart.{CorePart}
 use Rattle.mp_core.specs.declared.event.CoreEvent.{CoreEvent}
@@ -22,7 +23,7 @@ use Rattle.mp_core.specs.declared.event.CoreEvent.TheVariants.{Trx}
 use Rattle.mp_core.specs.World.{node_of, part, start, core}
 use Rattle.mp_core.proofs.Law.{law}
 use Rattle.mp_shared.specs.Nodes.{NodeView, Run, Reached, HoldsPart, MayTake, changed, first_node, node_without, node_of_one}
-use Rattle.mp_trx_fusion.specs.Calls.{with_trx, began, prepared, drew, MayBegin, MayLook}
+use Rattle.mp_trx_fusion.specs.Calls.{with_trx, began, loaded_slot, prepared, drew, MayBegin, MayLook}
 
 shown_first : (id : TrxId) (x : Shown) (rows : List SlotRow) → shown_at (row_of id x ∷ rows) id.slot ≡ x
 shown_first id x rows = ap (λ b. if b then x else shown_at rows id.slot) (eq-eqb id.slot id.slot refl)
@@ -73,6 +74,26 @@ module _ (n later : NodeView) (p : ℕ) (f : TrxPart → TrxPart) (is : later �
         within = subst (λ (o : TrxOpening). version ≤ o.base.version + o.begins) (sym (same q.trx)) may.within;
         fresh = λ b has. ⊎_elim (λ (old : IsIn b q.trx.begun). may.fresh b old) (λ (other : ¬ (b.id.version ≡ version)). other) (keeps q.trx b has);
       }
+
+-- what a primary may do stays as it looks where a transaction stands
+still_allowed : (id : TrxId) (word : ℕ) (e : TrxEvent) (q : TrxPart) → TrxAllowed q e → TrxAllowed (loaded_slot id word q) e
+still_allowed id word (LoadTso n) q may = may
+still_allowed id word (StoreActive n of) q may =
+    (may.0, record { own = may.1.own; above = may.1.above; within = may.1.within; fresh = may.1.fresh; in_range = may.1.in_range; usable = may.1.usable })
+still_allowed id word (StorePrep n of) q may = may
+still_allowed id word (DrawTso n of) q may = may
+still_allowed id word (StoreEnd n of (Some cts)) q may = may
+still_allowed id word (StoreEnd n of None) q may = may
+still_allowed id word (LoadTit n whose slot) q may = may
+
+pub may_take_looked : (n later : NodeView) (p : ℕ) (id : TrxId) (word : ℕ) → later ≡ with_trx n p (loaded_slot id word) → (e : TrxEvent) → trx_node_of e ≡ p → MayTake (Trx e) n → MayTake (Trx e) later
+may_take_looked n later p id word is e own may =
+    let q = may.0 in
+    let has : part_in n.parts p ≡ Some q = subst (λ k. part_in n.parts k ≡ Some q) own may.1 in (
+      record q { trx = loaded_slot id word q.trx },
+      subst (λ k. part_in later.parts k ≡ Some (record q { trx = loaded_slot id word q.trx })) (sym own) (part_here n later p (loaded_slot id word) is q has),
+      still_allowed id word e q.trx may.2,
+    )
 
 -- one that is ACTIVE has drawn nothing
 pub drew_nothing : (n : NodeView) (p : ℕ) (id : TrxId) → Reached n → (may : MayTake (Trx (StorePrep p id)) n) → HasDrawnNothing may.0.trx.drew id

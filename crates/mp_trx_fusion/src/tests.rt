@@ -1,10 +1,10 @@
-//! One commit that two primaries see, and four threads over one table.
+//! One commit that two primaries see, one transaction that is freed, and four threads over one table.
 ghost use Rattle.std.specs.Prelude.{◌≡◌, ◌+◌, ◌-◌, ◌*◌, ◌<◌, ◌≤◌, ℕ, []};
 ghost use Rattle.mp_core_trx.specs.declared.opening.TheConstants.{SLOTS};
 ghost use Rattle.mp_shared.specs.Nodes.{HoldsPart};
 ghost use Rattle.mp_trx_fusion.specs.Calls.{MayBegin, MayBeginEach};
 
-use crate::{Begun, SlotStatus, begin, draw, prepare, publish, status, view};
+use crate::{Begun, SlotStatus, begin, draw, free, prepare, publish, status, view};
 use mp_model::{Memory, TrxId};
 use mp_shared::{Base, Node, Shared};
 use std::alloc::AllocError;
@@ -38,6 +38,28 @@ fn two_primaries_see_one_commit(rt: HostRuntime) -> Result<(), Memory> {
     assert_eq!(rt; cts, 1);
     assert_eq!(rt; after, SlotStatus::Committed(1));
     assert_eq!(rt; newest, 1);
+    shared.close(node);
+    Ok(())
+}
+
+#[test]
+fn a_freed_transaction_shows_free(rt: HostRuntime) -> Result<(), Memory> {
+    let (shared, mut node) = Shared::open(rt.alloc(), FRESH, 2, 1)?;
+    let Ok(begun) = begin(&shared, &mut node, 1, 1) else {
+        unreachable!()
+    };
+    let before = status(&shared, &mut node, 1, begun.id);
+    free(&shared, &mut node, 1, begun.id);
+    let after = status(&shared, &mut node, 1, begun.id);
+    let other = TrxId {
+        node: 2,
+        slot: 0,
+        version: 1,
+    };
+    let of_none = status(&shared, &mut node, 1, other);
+    assert_eq!(rt; before, SlotStatus::Active);
+    assert_eq!(rt; after, SlotStatus::Free);
+    assert_eq!(rt; of_none, SlotStatus::Other);
     shared.close(node);
     Ok(())
 }

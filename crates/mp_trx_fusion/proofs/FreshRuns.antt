@@ -1,0 +1,28 @@
+-- What may come first in a run over a fresh store.
+use Rattle.std.proofs.Common.{◌≡◌, ℕ, ◌+◌, ◌<◌, ◌≤◌, sym, subst, arith}
+use Rattle.mp_model.specs.declared.ids.TrxId.{TrxId}
+use Rattle.mp_core_trx.specs.declared.opening.TheConstants.{SLOTS}
+use Rattle.mp_core_trx.specs.Events.{IsNode}
+use Rattle.mp_core.specs.declared.opening.CoreOpening.{CoreOpening}
+use Rattle.mp_shared.specs.Nodes.{Run, NodeView, opening_of, first_node}
+use Rattle.mp_trx_fusion.specs.Calls.{MayBegin, MayLook}
+use Rattle.mp_trx_fusion.proofs.Callers.{may_begin_first, may_look_first}
+
+abbrev pub over_fresh : ℕ → ℕ → CoreOpening
+over_fresh primaries begins = opening_of record { ts = 0; llsn = 0; version = 0 } primaries begins
+
+module _ (primaries begins : ℕ) (r : Run) (node : NodeView) (opening_is : r.opening ≡ over_fresh primaries begins) (node_is : node ≡ first_node r) where
+  of_fresh : (P : CoreOpening → Type 0) → P (over_fresh primaries begins) → P r.opening
+  of_fresh P h = subst P (sym opening_is) h
+
+  -- a primary may begin with each version of the run
+  pub may_begin_fresh : (p version : ℕ) → 1 ≤ p → p ≤ primaries → 0 < version → version ≤ begins → MayBegin node p version
+  may_begin_fresh p version low high above within =
+      subst (λ n. MayBegin n p version) (sym node_is)
+      (may_begin_first r p (of_fresh (λ o. IsNode o.trx p) (low, high)) version (of_fresh (λ o. o.trx.base.version < version) above) (of_fresh (λ o. version ≤ o.trx.base.version + o.trx.begins) (omega arith)))
+
+  -- and look at each slot of each primary
+  pub may_look_fresh : (p : ℕ) (id : TrxId) → 1 ≤ p → p ≤ primaries → (1 ≤ id.node) × (id.node ≤ primaries) → id.slot < SLOTS → MayLook node p id
+  may_look_fresh p id low high of_node slot =
+      subst (λ n. MayLook n p id) (sym node_is)
+      (may_look_first r p (of_fresh (λ o. IsNode o.trx p) (low, high)) id (of_fresh (λ o. IsNode o.trx id.node) of_node) slot)
