@@ -64,7 +64,8 @@ impl Shared {
         begins: u32,
     ) -> Result<(Shared, Node), Memory>
         requires { IsFair (opening_of base primaries begins) }
-        ensures { IfOk result (λ t. (t.0.opening ≡ opening_of base primaries begins) × (t.1 ≡ first_node t.0)) }
+        ensures opened { IfOk result (λ t. (t.0.opening ≡ opening_of base primaries begins) × (t.1 ≡ first_node t.0)) }
+        ensures reached { IfOk result (λ t. Reached t.1) }
     {
         let opening = CoreOpening {
             trx: TrxOpening {
@@ -94,7 +95,8 @@ impl Shared {
     pub fn split(&self, node: &mut Node, p: u8) -> Result<Node, Memory>
         requires run { node.old.run ≡ self.now }
         requires part { HoldsPart node.old p }
-        ensures { MatchResult result (λ other. (other ≡ node_of_one p node.old) × (node.new ≡ node_without p node.old)) (λ _. node.new ≡ node.old) }
+        ensures parted { MatchResult result (λ other. (other ≡ node_of_one p node.old) × (node.new ≡ node_without p node.old)) (λ _. node.new ≡ node.old) }
+        ensures reached { IfOk result (λ other. Reached other × Reached node.new) }
     {
         let seat = part_off::<Brand, u8>(&self.table, &mut node.seat, &p);
         let mut counts = SlotCounts::none();

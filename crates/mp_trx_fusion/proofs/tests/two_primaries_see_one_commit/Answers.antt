@@ -16,40 +16,40 @@ one_is_other : ¬ (◌≡◌ {A = ℕ} 1 2)
 one_is_other e = absurd (omega arith)
 
 pub begin-requires-clause-may : goal.begin-requires-clause-may
-begin-requires-clause-may g c = may_begin_fresh 2 1 c.in_ok-shared.shared c.in_ok-shared.node c.in_ok-shared.ensures.0 c.in_ok-shared.ensures.1 1 1 (lit≤ tt) (lit≤ tt) (lit< tt) (lit≤ tt)
+begin-requires-clause-may g c = may_begin_fresh 2 1 c.in_ok-shared.shared c.in_ok-shared.node c.in_ok-shared.ensures.opened.0 c.in_ok-shared.ensures.opened.1 1 1 (lit≤ tt) (lit≤ tt) (lit< tt) (lit≤ tt)
 
 pub prepare-requires-clause-may : goal.prepare-requires-clause-may
 prepare-requires-clause-may g c =
     let b = c.in-Ok.field-0 in
     let id = b.id in
-    may_prepare c.in_ok-shared.node c.begin.new.node 1 1 b c.in-Ok.ensures.becomes (may_begin_fresh 2 1 c.in_ok-shared.shared c.in_ok-shared.node c.in_ok-shared.ensures.0 c.in_ok-shared.ensures.1 1 1 (lit≤ tt) (lit≤ tt) (lit< tt) (lit≤ tt))
+    may_prepare c.in_ok-shared.node c.begin.new.node 1 1 b c.in-Ok.ensures.becomes (may_begin_fresh 2 1 c.in_ok-shared.shared c.in_ok-shared.node c.in_ok-shared.ensures.opened.0 c.in_ok-shared.ensures.opened.1 1 1 (lit≤ tt) (lit≤ tt) (lit< tt) (lit≤ tt))
 
 pub status-before-requires-clause-may : goal.status-before-requires-clause-may
 status-before-requires-clause-may g c =
     let b = c.in-Ok.field-0 in
     let id = b.id in
-    may_look_else c.begin.new.node c.prepare.new.node 1 (prepared id) c.prepare.ensures.becomes 2 id two_is_other (may_look_else c.in_ok-shared.node c.begin.new.node 1 (began b) c.in-Ok.ensures.becomes 2 id two_is_other (may_look_fresh 2 1 c.in_ok-shared.shared c.in_ok-shared.node c.in_ok-shared.ensures.0 c.in_ok-shared.ensures.1 2 id (lit≤ tt) (lit≤ tt) (subst (λ k. (1 ≤ k) × (k ≤ 2)) (sym c.in-Ok.ensures.begun.0) (lit≤ tt, lit≤ tt)) (next_in_range (used_by (part_in c.in_ok-shared.node.parts 1)) id.slot c.in-Ok.ensures.begun.2)))
+    may_look_else c.begin.new.node c.prepare.new.node 1 (prepared id) c.prepare.ensures.becomes 2 id two_is_other (may_look_else c.in_ok-shared.node c.begin.new.node 1 (began b) c.in-Ok.ensures.becomes 2 id two_is_other (may_look_fresh 2 1 c.in_ok-shared.shared c.in_ok-shared.node c.in_ok-shared.ensures.opened.0 c.in_ok-shared.ensures.opened.1 2 id (lit≤ tt) (lit≤ tt) (subst (λ k. (1 ≤ k) × (k ≤ 2)) (sym c.in-Ok.ensures.begun.0) (lit≤ tt, lit≤ tt)) (next_in_range (used_by (part_in c.in_ok-shared.node.parts 1)) id.slot c.in-Ok.ensures.begun.2)))
 
 pub draw-cts-requires-clause-may : goal.draw-cts-requires-clause-may
 draw-cts-requires-clause-may g c =
     let b = c.in-Ok.field-0 in
     let id = b.id in
     let seen = c.status-before.ensures.shown in
-    may_take_else c.prepare.new.node c.status-before.new.node 2 (loaded_slot id seen.0) seen.2 (Trx (DrawTso 1 id)) one_is_other (may_draw c.begin.new.node c.prepare.new.node 1 id c.prepare.ensures.becomes c.begin.ensures.reached (may_prepare c.in_ok-shared.node c.begin.new.node 1 1 b c.in-Ok.ensures.becomes (may_begin_fresh 2 1 c.in_ok-shared.shared c.in_ok-shared.node c.in_ok-shared.ensures.0 c.in_ok-shared.ensures.1 1 1 (lit≤ tt) (lit≤ tt) (lit< tt) (lit≤ tt))))
+    may_take_else c.prepare.new.node c.status-before.new.node 2 (loaded_slot id seen.0) seen.2 (Trx (DrawTso 1 id)) one_is_other (may_draw c.begin.new.node c.prepare.new.node 1 id c.prepare.ensures.becomes c.begin.ensures.reached (may_prepare c.in_ok-shared.node c.begin.new.node 1 1 b c.in-Ok.ensures.becomes (may_begin_fresh 2 1 c.in_ok-shared.shared c.in_ok-shared.node c.in_ok-shared.ensures.opened.0 c.in_ok-shared.ensures.opened.1 1 1 (lit≤ tt) (lit≤ tt) (lit< tt) (lit≤ tt))))
 
 pub publish-requires-clause-may : goal.publish-requires-clause-may
 publish-requires-clause-may g c =
     let b = c.in-Ok.field-0 in
     let id = b.id in
     let seen = c.status-before.ensures.shown in
-    may_publish c.status-before.new.node c.draw-cts.new.node 1 id _ c.draw-cts.ensures.becomes (may_take_else c.prepare.new.node c.status-before.new.node 2 (loaded_slot id seen.0) seen.2 (Trx (DrawTso 1 id)) one_is_other (may_draw c.begin.new.node c.prepare.new.node 1 id c.prepare.ensures.becomes c.begin.ensures.reached (may_prepare c.in_ok-shared.node c.begin.new.node 1 1 b c.in-Ok.ensures.becomes (may_begin_fresh 2 1 c.in_ok-shared.shared c.in_ok-shared.node c.in_ok-shared.ensures.0 c.in_ok-shared.ensures.1 1 1 (lit≤ tt) (lit≤ tt) (lit< tt) (lit≤ tt)))))
+    may_publish c.status-before.new.node c.draw-cts.new.node 1 id _ c.draw-cts.ensures.becomes (may_take_else c.prepare.new.node c.status-before.new.node 2 (loaded_slot id seen.0) seen.2 (Trx (DrawTso 1 id)) one_is_other (may_draw c.begin.new.node c.prepare.new.node 1 id c.prepare.ensures.becomes c.begin.ensures.reached (may_prepare c.in_ok-shared.node c.begin.new.node 1 1 b c.in-Ok.ensures.becomes (may_begin_fresh 2 1 c.in_ok-shared.shared c.in_ok-shared.node c.in_ok-shared.ensures.opened.0 c.in_ok-shared.ensures.opened.1 1 1 (lit≤ tt) (lit≤ tt) (lit< tt) (lit≤ tt)))))
 
 pub status-after-requires-clause-may : goal.status-after-requires-clause-may
 status-after-requires-clause-may g c =
     let b = c.in-Ok.field-0 in
     let id = b.id in
     let seen = c.status-before.ensures.shown in
-    may_look_else c.draw-cts.new.node c.publish.new.node 1 (ended_with id (Some c.draw-cts.result)) c.publish.ensures.becomes 2 id two_is_other (may_look_else c.status-before.new.node c.draw-cts.new.node 1 (drew id c.draw-cts.result) c.draw-cts.ensures.becomes 2 id two_is_other (may_look_here c.prepare.new.node c.status-before.new.node 2 (loaded_slot id seen.0) seen.2 id (λ q. refl) (may_look_else c.begin.new.node c.prepare.new.node 1 (prepared id) c.prepare.ensures.becomes 2 id two_is_other (may_look_else c.in_ok-shared.node c.begin.new.node 1 (began b) c.in-Ok.ensures.becomes 2 id two_is_other (may_look_fresh 2 1 c.in_ok-shared.shared c.in_ok-shared.node c.in_ok-shared.ensures.0 c.in_ok-shared.ensures.1 2 id (lit≤ tt) (lit≤ tt) (subst (λ k. (1 ≤ k) × (k ≤ 2)) (sym c.in-Ok.ensures.begun.0) (lit≤ tt, lit≤ tt)) (next_in_range (used_by (part_in c.in_ok-shared.node.parts 1)) id.slot c.in-Ok.ensures.begun.2))))))
+    may_look_else c.draw-cts.new.node c.publish.new.node 1 (ended_with id (Some c.draw-cts.result)) c.publish.ensures.becomes 2 id two_is_other (may_look_else c.status-before.new.node c.draw-cts.new.node 1 (drew id c.draw-cts.result) c.draw-cts.ensures.becomes 2 id two_is_other (may_look_here c.prepare.new.node c.status-before.new.node 2 (loaded_slot id seen.0) seen.2 id (λ q. refl) (may_look_else c.begin.new.node c.prepare.new.node 1 (prepared id) c.prepare.ensures.becomes 2 id two_is_other (may_look_else c.in_ok-shared.node c.begin.new.node 1 (began b) c.in-Ok.ensures.becomes 2 id two_is_other (may_look_fresh 2 1 c.in_ok-shared.shared c.in_ok-shared.node c.in_ok-shared.ensures.opened.0 c.in_ok-shared.ensures.opened.1 2 id (lit≤ tt) (lit≤ tt) (subst (λ k. (1 ≤ k) × (k ≤ 2)) (sym c.in-Ok.ensures.begun.0) (lit≤ tt, lit≤ tt)) (next_in_range (used_by (part_in c.in_ok-shared.node.parts 1)) id.slot c.in-Ok.ensures.begun.2))))))
 
 pub view-newest-requires-clause-part : goal.view-newest-requires-clause-part
 view-newest-requires-clause-part g c =
@@ -57,5 +57,5 @@ view-newest-requires-clause-part g c =
     let id = b.id in
     let seen = c.status-before.ensures.shown in
     let again = c.status-after.ensures.shown in
-    let look = may_look_here c.publish.new.node c.status-after.new.node 2 (loaded_slot id again.0) again.2 id (λ q. refl) (may_look_else c.draw-cts.new.node c.publish.new.node 1 (ended_with id (Some c.draw-cts.result)) c.publish.ensures.becomes 2 id two_is_other (may_look_else c.status-before.new.node c.draw-cts.new.node 1 (drew id c.draw-cts.result) c.draw-cts.ensures.becomes 2 id two_is_other (may_look_here c.prepare.new.node c.status-before.new.node 2 (loaded_slot id seen.0) seen.2 id (λ q. refl) (may_look_else c.begin.new.node c.prepare.new.node 1 (prepared id) c.prepare.ensures.becomes 2 id two_is_other (may_look_else c.in_ok-shared.node c.begin.new.node 1 (began b) c.in-Ok.ensures.becomes 2 id two_is_other (may_look_fresh 2 1 c.in_ok-shared.shared c.in_ok-shared.node c.in_ok-shared.ensures.0 c.in_ok-shared.ensures.1 2 id (lit≤ tt) (lit≤ tt) (subst (λ k. (1 ≤ k) × (k ≤ 2)) (sym c.in-Ok.ensures.begun.0) (lit≤ tt, lit≤ tt)) (next_in_range (used_by (part_in c.in_ok-shared.node.parts 1)) id.slot c.in-Ok.ensures.begun.2))))))) in
+    let look = may_look_here c.publish.new.node c.status-after.new.node 2 (loaded_slot id again.0) again.2 id (λ q. refl) (may_look_else c.draw-cts.new.node c.publish.new.node 1 (ended_with id (Some c.draw-cts.result)) c.publish.ensures.becomes 2 id two_is_other (may_look_else c.status-before.new.node c.draw-cts.new.node 1 (drew id c.draw-cts.result) c.draw-cts.ensures.becomes 2 id two_is_other (may_look_here c.prepare.new.node c.status-before.new.node 2 (loaded_slot id seen.0) seen.2 id (λ q. refl) (may_look_else c.begin.new.node c.prepare.new.node 1 (prepared id) c.prepare.ensures.becomes 2 id two_is_other (may_look_else c.in_ok-shared.node c.begin.new.node 1 (began b) c.in-Ok.ensures.becomes 2 id two_is_other (may_look_fresh 2 1 c.in_ok-shared.shared c.in_ok-shared.node c.in_ok-shared.ensures.opened.0 c.in_ok-shared.ensures.opened.1 2 id (lit≤ tt) (lit≤ tt) (subst (λ k. (1 ≤ k) × (k ≤ 2)) (sym c.in-Ok.ensures.begun.0) (lit≤ tt, lit≤ tt)) (next_in_range (used_by (part_in c.in_ok-shared.node.parts 1)) id.slot c.in-Ok.ensures.begun.2))))))) in
     (look.0, look.1, look.2)

@@ -9,3 +9,8 @@ new-requires-2 c = opens (opening_of c.args.base c.args.primaries c.args.begins)
 
 pub invariant_of-result-in-Ok : goal.invariant_of-result-in-Ok
 invariant_of-result-in-Ok c = kept_first (opening_of c.args.base c.args.primaries c.args.begins) _ _ c.requires (ap (λ me. me.0) c.in-Ok.ensures.seat.1) c.unused-counts.ensures.held c.unused-counts.ensures.others
+
+pub returns-in-Ok-clause-reached : goal.returns-in-Ok-clause-reached
+returns-in-Ok-clause-reached c =
+    let kept = kept_first (opening_of c.args.base c.args.primaries c.args.begins) _ _ c.requires (ap (λ me. me.0) c.in-Ok.ensures.seat.1) c.unused-counts.ensures.held c.unused-counts.ensures.others in
+    record { fair = kept.fair; backed = kept.backed }

@@ -12,3 +12,13 @@ pub invariant_of-node : goal.invariant_of-node
 invariant_of-node c =
     subst (λ v. IsKept c.node.inside.opening v c.set-2.new.self.used) (sym (ap (λ me. me.0) c.part_off-seat.ensures.kept.1))
     (kept_others c.node.inside.opening c.node.inside.seat.me.0 _ c.node.invariant c.args.p c.set-2.new.self.used c.set-2.ensures.here c.set-2.ensures.others)
+
+pub returns-clause-reached : goal.returns-clause-reached
+returns-clause-reached c =
+    let one =
+    subst (λ v. IsKept c.node.inside.opening v c.set.new.self.used) (sym (ap (λ me. me.0) c.part_off-seat.ensures.given.1))
+    (kept_one c.node.inside.opening c.node.inside.seat.me.0 _ c.node.invariant c.args.p c.set.new.self.used (c.set.ensures.here ∙ c.get.ensures) (λ n other. c.set.ensures.others n other ∙ c.none-counts.ensures n)) in
+    let others =
+    subst (λ v. IsKept c.node.inside.opening v c.set-2.new.self.used) (sym (ap (λ me. me.0) c.part_off-seat.ensures.kept.1))
+    (kept_others c.node.inside.opening c.node.inside.seat.me.0 _ c.node.invariant c.args.p c.set-2.new.self.used c.set-2.ensures.here c.set-2.ensures.others) in
+    (record { fair = one.fair; backed = one.backed }, record { fair = others.fair; backed = others.backed })
