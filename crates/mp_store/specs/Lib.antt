@@ -6,3 +6,4 @@ pub mod StoreFiles
 pub mod Answers
 pub mod SideWrites
 pub mod FreshStores
+pub mod SmallSides

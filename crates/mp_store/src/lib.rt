@@ -4,6 +4,7 @@
 
 mod checking;
 mod checks;
+mod examples;
 mod fresh;
 mod header_sides;
 mod headers;
@@ -14,6 +15,7 @@ mod sides;
 mod store;
 mod writing;
 
+pub use examples::law_store_examples;
 pub use fresh::init;
 pub use headers::Header;
 pub use refusals::StoreRefusal;
