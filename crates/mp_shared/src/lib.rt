@@ -8,5 +8,5 @@ mod slot_counts;
 mod trx_steps;
 
 pub use mp_core_trx::Base;
-pub use node::{Node, NotYet};
+pub use node::Node;
 pub use shared::Shared;

@@ -28,10 +28,6 @@ impl Model for Node {
     ghost invariant = { λ n. IsKept n.opening n.seat.me.0 n.counts.used };
 }
 
-/// A call that may be tried again later, and changed nothing.
-#[derive(Clone, Copy, Debug, PartialEq, Eq)]
-pub struct NotYet;
-
 impl Node {
     /// The slot that the next transaction of primary `p` takes: each transaction takes its primary's next unused slot.
     /// `None` where all slots of `p` were used. It makes no step.

@@ -4,3 +4,4 @@ pub mod Standing
 pub mod Callers
 mod FreshRuns
 mod Worked
+mod Looks

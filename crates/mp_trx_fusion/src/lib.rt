@@ -6,10 +6,11 @@
 mod commit;
 mod sight;
 mod slot_status;
+pub mod trial;
 
 pub use commit::{draw, free, prepare, publish};
 pub use mp_core_trx::Begun;
-pub use mp_shared::NotYet;
+pub use mp_model::NotYet;
 pub use sight::{begin, view};
 pub use slot_status::{SlotStatus, status};
 

@@ -6,8 +6,8 @@ ghost use Rattle.mp_shared.specs.Slots.{next_slot, CanUse};
 ghost use Rattle.mp_trx_fusion.specs.Calls.{with_trx, saw, began, Knows, HoldsAll, clock_of, MayBegin};
 
 use mp_core_trx::Begun;
-use mp_model::TrxId;
-use mp_shared::{Node, NotYet, Shared};
+use mp_model::{NotYet, TrxId, WordKind};
+use mp_shared::{Node, Shared};
 
 /// The greatest timestamp that was drawn, or the base where none was. It is at least each timestamp that the part of `p`
 /// knows, and exactly the base and the timestamps drawn where the node holds all parts.
@@ -25,7 +25,7 @@ pub fn view(shared: &Shared, node: &mut Node, p: u8) -> u64
 /// Begins a transaction of `p` with this version, which is above the base version and within the run's, and which no
 /// other transaction of `p` has. It takes the next unused slot of `p`. Its view is the greatest timestamp that was drawn,
 /// loaded in this call. `NotYet` only where all slots of `p` were used, which can't be where the run begins at most as
-/// many transactions as a primary has slots; nothing changed then.
+/// many transactions as a primary has slots; nothing changed then. It names the least view of `p`, which no step reads yet.
 pub fn begin(shared: &Shared, node: &mut Node, p: u8, version: u32) -> Result<Begun, NotYet>
     requires run { node.old.run ≡ shared.now }
     requires may { MayBegin node.old p version }
@@ -38,7 +38,11 @@ pub fn begin(shared: &Shared, node: &mut Node, p: u8, version: u32) -> Result<Be
     ensures reached { Reached node.new }
 {
     let Some(slot) = node.next_slot(p) else {
-        return Err(NotYet);
+        return Err(NotYet {
+            of: WordKind::Least,
+            at: u32::from(p),
+            seen: 0,
+        });
     };
     let view = shared.load_tso(node, p);
     let id = TrxId {

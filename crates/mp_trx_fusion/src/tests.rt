@@ -1,14 +1,11 @@
 //! One commit that two primaries see, one transaction that is freed, and four threads over one table.
-ghost use Rattle.std.specs.Prelude.{◌≡◌, ◌+◌, ◌-◌, ◌*◌, ◌<◌, ◌≤◌, ℕ, []};
-ghost use Rattle.mp_core_trx.specs.declared.opening.TheConstants.{SLOTS};
-ghost use Rattle.mp_shared.specs.Nodes.{HoldsPart};
-ghost use Rattle.mp_trx_fusion.specs.Calls.{MayBegin, MayBeginEach};
+ghost use Rattle.std.specs.Prelude.{◌<◌};
 
+use crate::trial::{Together, commit_together};
 use crate::{Begun, SlotStatus, begin, draw, free, prepare, publish, status, view};
 use mp_model::{Memory, TrxId};
 use mp_shared::{Base, Node, Shared};
 use std::alloc::AllocError;
-use std::thread::{Threads, join};
 
 const FRESH: Base = Base {
     ts: 0,
@@ -64,102 +61,6 @@ fn a_freed_transaction_shows_free(rt: HostRuntime) -> Result<(), Memory> {
     Ok(())
 }
 
-/// Begins, prepares, draws and publishes.
-fn commit_one(shared: &Shared, node: &mut Node, p: u8, version: u32) -> u64
-    requires run { node.old.run ≡ shared.now }
-    requires few { shared.now.opening.trx.begins ≤ SLOTS }
-    requires may { MayBegin node.old p version }
-    ensures node { (node.new.run ≡ node.old.run) × (node.new.frames ≡ node.old.frames) }
-    ensures part { HoldsPart node.new p }
-    ensures others { (other : ℕ) → ¬ (other ≡ version) → MayBegin node.old p other → MayBegin node.new p other }
-{
-    let Ok(Begun { id, view: _ }) = begin(shared, node, p, version) else {
-        unreachable!()
-    };
-    prepare(shared, node, p, id);
-    let cts = draw(shared, node, p, id);
-    publish(shared, node, p, id, cts);
-    cts
-}
-
-/// Commits 200 transactions of `p`, with the versions that follow on `after`. The answer has their timestamps.
-fn commit_many(shared: &Shared, mut node: Node, p: u8, after: u32) -> (Node, [u64; 200])
-    requires run { node.run ≡ shared.now }
-    requires few { shared.now.opening.trx.begins ≤ SLOTS }
-    requires may { MayBeginEach node p after 200 }
-    requires fits { after ≤ 600 }
-    ensures node { (result.0.run ≡ shared.now) × (result.0.frames ≡ node.frames) }
-    ensures part { HoldsPart result.0 p }
-{
-    let mut drawn = [0; 200];
-    for i in 0..200u8 {
-        drawn[usize::from(i)] = commit_one(shared, &mut node, p, after + 1 + u32::from(i));
-    }
-    (node, drawn)
-}
-
-/// Two threads do so for two primaries.
-fn commit_by_two<R: Threads + Sync>(
-    rt: &R,
-    shared: &Shared,
-    low: Node,
-    high: Node,
-    p: u8,
-    after: u32,
-) -> ((Node, [u64; 200]), (Node, [u64; 200]))
-    requires run { (low.run ≡ shared.now) × (high.run ≡ shared.now) }
-    requires few { shared.now.opening.trx.begins ≤ SLOTS }
-    requires may { MayBeginEach low p after 200 × MayBeginEach high (p + 1) (after + 200) 200 }
-    requires fits { (after ≤ 400) × (p < 255) }
-    ensures low { (result.0.0.run ≡ shared.now) × (result.0.0.frames ≡ low.frames) × HoldsPart result.0.0 p }
-    ensures high { (result.1.0.run ≡ shared.now) × (result.1.0.frames ≡ high.frames) × HoldsPart result.1.0 (p + 1) }
-{
-    join(
-        rt,
-        move || -> (Node, [u64; 200])
-            requires { (low.run ≡ shared.now) × (shared.now.opening.trx.begins ≤ SLOTS) × MayBeginEach low p after 200 × (after ≤ 400) }
-            ensures { (result.0.run ≡ shared.entry.now) × (result.0.frames ≡ low.frames) × HoldsPart result.0 p }
-        { commit_many(shared, low, p, after) },
-        move || -> (Node, [u64; 200])
-            requires { (high.run ≡ shared.now) × (shared.now.opening.trx.begins ≤ SLOTS) × MayBeginEach high (p + 1) (after + 200) 200 × (after ≤ 400) × (p < 255) }
-            ensures { (result.0.run ≡ shared.entry.now) × (result.0.frames ≡ high.frames) × HoldsPart result.0 (p + 1) }
-        { commit_many(shared, high, p + 1, after + 200) },
-    )
-}
-
-/// Four threads do so for the primaries 1 to 4.
-fn commit_by_four<R: Threads + Sync>(
-    rt: &R,
-    shared: &Shared,
-    first: Node,
-    second: Node,
-    third: Node,
-    fourth: Node,
-) -> (
-    ((Node, [u64; 200]), (Node, [u64; 200])),
-    ((Node, [u64; 200]), (Node, [u64; 200])),
-)
-    requires run { (first.run ≡ shared.now) × (second.run ≡ shared.now) × (third.run ≡ shared.now) × (fourth.run ≡ shared.now) }
-    requires few { shared.now.opening.trx.begins ≤ SLOTS }
-    requires low { MayBeginEach first 1 0 200 × MayBeginEach second 2 200 200 }
-    requires high { MayBeginEach third 3 400 200 × MayBeginEach fourth 4 600 200 }
-    ensures run { (result.0.0.0.run ≡ shared.now) × (result.0.1.0.run ≡ shared.now) × (result.1.0.0.run ≡ shared.now) × (result.1.1.0.run ≡ shared.now) }
-    ensures frames { (result.0.1.0.frames ≡ second.frames) × (result.1.0.0.frames ≡ third.frames) × (result.1.1.0.frames ≡ fourth.frames) }
-    ensures part { HoldsPart result.0.0.0 1 }
-{
-    join(
-        rt,
-        move || -> ((Node, [u64; 200]), (Node, [u64; 200]))
-            requires { (first.run ≡ shared.now) × (second.run ≡ shared.now) × (shared.now.opening.trx.begins ≤ SLOTS) × MayBeginEach first 1 0 200 × MayBeginEach second 2 200 200 }
-            ensures { (result.0.0.run ≡ shared.entry.now) × (result.1.0.run ≡ shared.entry.now) × (result.1.0.frames ≡ second.frames) × HoldsPart result.0.0 1 }
-        { commit_by_two(rt, shared, first, second, 1, 0) },
-        move || -> ((Node, [u64; 200]), (Node, [u64; 200]))
-            requires { (third.run ≡ shared.now) × (fourth.run ≡ shared.now) × (shared.now.opening.trx.begins ≤ SLOTS) × MayBeginEach third 3 400 200 × MayBeginEach fourth 4 600 200 }
-            ensures { (result.0.0.run ≡ shared.entry.now) × (result.1.0.run ≡ shared.entry.now) × (result.0.0.frames ≡ third.frames) × (result.1.0.frames ≡ fourth.frames) }
-        { commit_by_two(rt, shared, third, fourth, 3, 400) },
-    )
-}
-
 /// Whether the timestamps are 1 to 800, each once.
 fn are_all(mut drawn: Vec<u64>) -> Result<bool, AllocError> {
     drawn.sort()?;
@@ -173,28 +74,12 @@ fn are_all(mut drawn: Vec<u64>) -> Result<bool, AllocError> {
 
 #[test]
 fn four_threads_draw_each_timestamp_once(rt: HostRuntime) -> Result<(), Memory> {
-    let (shared, mut first) = Shared::open(rt.alloc(), FRESH, 4, 800)?;
-    let second = shared.split(&mut first, 2)?;
-    let third = shared.split(&mut first, 3)?;
-    let fourth = shared.split(&mut first, 4)?;
-    let (low, high) = commit_by_four(&rt, &shared, first, second, third, fourth);
-    let (first, second) = low;
-    let (third, fourth) = high;
-    let (mut node, one) = first;
-    let (second, two) = second;
-    let (third, three) = third;
-    let (fourth, four) = fourth;
-    shared.join(&mut node, second);
-    shared.join(&mut node, third);
-    shared.join(&mut node, fourth);
-    let newest = view(&shared, &mut node, 1);
-    let mut drawn = Vec::new(rt.alloc());
-    drawn.extend_from_slice(&one)?;
-    drawn.extend_from_slice(&two)?;
-    drawn.extend_from_slice(&three)?;
-    drawn.extend_from_slice(&four)?;
-    assert!(rt; are_all(drawn)?);
+    let Together { drawn, newest } = commit_together(&rt, rt.alloc())?;
+    let mut all = Vec::new(rt.alloc());
+    for part in &drawn {
+        all.extend_from_slice(part)?;
+    }
+    assert!(rt; are_all(all)?);
     assert_eq!(rt; newest, 800);
-    shared.close(node);
     Ok(())
 }

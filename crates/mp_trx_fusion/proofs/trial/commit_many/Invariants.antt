@@ -1,7 +1,7 @@
 use Rattle.std.proofs.Common.{◌≡◌, ◌+◌, ◌-◌}
 use Rattle.mp_shared.specs.Nodes.{HoldsPart}
 use Rattle.mp_trx_fusion.specs.Calls.{MayBeginEach}
-use Rattle.mp_trx_fusion.proofs.tests.commit_many.Given as goal
+use Rattle.mp_trx_fusion.proofs.trial.commit_many.Given as goal
 
 -- the versions from here on are free
 abbrev pub invariant-loop-i : goal.invariant-loop-i
