@@ -2,12 +2,14 @@
 //! all that was done, and is the same for the same words.
 #![tactic(auto)]
 
+mod commits;
 mod mtrs;
 mod pages;
 
 use mp_model::Memory;
 use std::alloc::Global;
 use std::process::ExitCode;
+use std::thread::Threads;
 use std::{env, io};
 
 fn main(rt: HostRuntime) -> io::Result<ExitCode> {
@@ -19,7 +21,7 @@ fn main(rt: HostRuntime) -> io::Result<ExitCode> {
         return usage(&rt);
     };
     for work in works {
-        match work.sum(rt.alloc(), rounds) {
+        match work.sum(&rt, rt.alloc(), rounds) {
             Ok(sum) => println!(rt; "{} {rounds} sum {sum}", work.name())?,
             Err(Memory) => return Err(io::ErrorKind::OutOfMemory.into()),
         }
@@ -28,7 +30,7 @@ fn main(rt: HostRuntime) -> io::Result<ExitCode> {
 }
 
 fn usage(rt: &HostRuntime) -> io::Result<ExitCode> {
-    println!(*rt; "usage: mp_bench pages, mtrs or all ROUNDS")?;
+    println!(*rt; "usage: mp_bench pages, mtrs, commits, threads or all ROUNDS")?;
     Ok(ExitCode::from(1))
 }
 
@@ -39,6 +41,10 @@ enum Work {
     Pages,
     /// Mtrs are written as bytes and read back.
     Mtrs,
+    /// One thread commits 200 transactions over a shared table.
+    Commits,
+    /// Four threads commit 200 transactions each over a shared table.
+    Threads,
 }
 
 // The works that a word names.
@@ -46,7 +52,9 @@ fn works_of(word: &str) -> Option<&'static [Work]> {
     match word {
         "pages" => Some(&[Work::Pages]),
         "mtrs" => Some(&[Work::Mtrs]),
-        "all" => Some(&[Work::Pages, Work::Mtrs]),
+        "commits" => Some(&[Work::Commits]),
+        "threads" => Some(&[Work::Threads]),
+        "all" => Some(&[Work::Pages, Work::Mtrs, Work::Commits, Work::Threads]),
         _ => None,
     }
 }
@@ -56,13 +64,17 @@ impl Work {
         match self {
             Work::Pages => "pages",
             Work::Mtrs => "mtrs",
+            Work::Commits => "commits",
+            Work::Threads => "threads",
         }
     }
 
-    fn sum(self, alloc: Global, rounds: u32) -> Result<u64, Memory> {
+    fn sum<R: Threads + Sync>(self, rt: &R, alloc: Global, rounds: u32) -> Result<u64, Memory> {
         match self {
             Work::Pages => Ok(pages::write_and_read(rounds)),
             Work::Mtrs => mtrs::write_and_read(alloc, rounds),
+            Work::Commits => commits::by_one(alloc, rounds),
+            Work::Threads => commits::by_four(rt, alloc, rounds),
         }
     }
 }
