@@ -1,21 +1,17 @@
 -- A file of zeros with three sides written is a fresh store.
-use Rattle.std.proofs.Common.{◌≡◌, ◌⊎◌, inl, inr, ℕ, zero, suc, ◌+◌, ◌-◌, ◌*◌, ◌^◌, ◌<◌, ◌≤◌, Bool, true, false, eqb, List, [], ◌∷◌, ◌++◌, length, take, drop, get_or, replicate, Option, Some, None, refl, sym, ap, ◌∙◌, subst, arith}
+use Rattle.std.proofs.Common.{◌≡◌, ◌⊎◌, inl, inr, ℕ, zero, suc, ◌+◌, ◌-◌, ◌*◌, ◌<◌, ◌≤◌, Bool, true, false, eqb, List, [], ◌∷◌, ◌++◌, length, take, drop, get_or, replicate, None, refl, sym, ap, ◌∙◌, subst, arith}
 use Rattle.std.proofs.lemmas.List.{length-replicate, take_all, drop_all, replicate-append-replicate, append-nil, get_or-drop}
 use Rattle.mp_outside.specs.Disks.{written}
-use Rattle.mp_cells.specs.declared.kinds.Kind.TheVariants.{Meta, Leaf, Inner}
 use Rattle.mp_cells.specs.Numbers.{number_at}
-use Rattle.mp_cells.specs.PageView.{PageView, IsPage, AreBits, blank_page, is_of, bit_of}
+use Rattle.mp_cells.specs.PageView.{PageView, IsPage, AreBits, blank_page}
 use Rattle.mp_page.specs.Grammar.{spelling, header_bytes}
-use Rattle.mp_page.specs.Grammar as grammar
 use Rattle.mp_page.proofs.PageAgain.{spelling-sound}
-use Rattle.mp_store.specs.declared.headers.Header.{Header}
-use Rattle.mp_store.specs.declared.sides.Side.{Side}
 use Rattle.mp_store.specs.declared.sides.Side.TheVariants.{First, Second}
-use Rattle.mp_store.specs.Checks.{first_of, only_if, unless}
+use Rattle.mp_store.specs.Checks.{first_of, only_if}
 use Rattle.mp_store.specs.Layout.{store_length, part, is_open, page_place, header_side, page_side}
 use Rattle.mp_store.specs.HeaderSides.{header_body, header_of, header_fault, headers_fault}
 use Rattle.mp_store.specs.PageSides.{page_body, page_in, counts, outranks, side_fault, sides_fault}
-use Rattle.mp_store.specs.StoreFiles.{header_in_force, page_in_force, home_fault, homes_fault, roots_fault, length_fault, first_fault}
+use Rattle.mp_store.specs.StoreFiles.{header_in_force, page_in_force, home_fault, homes_fault, roots_fault, first_fault}
 use Rattle.mp_store.specs.SideWrites.{SameOutside, open_side}
 use Rattle.mp_store.specs.FreshStores.{zeros, fresh_header, fresh_map, fresh_root, IsFresh}
 use Rattle.mp_store.proofs.Halves.{gate_of_part}

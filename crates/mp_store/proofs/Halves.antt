@@ -1,5 +1,5 @@
 -- The two halves of a part of a file are parts of it.
-use Rattle.std.proofs.Common.{◌≡◌, ℕ, ◌+◌, ◌<◌, ◌≤◌, List, length, take, drop, eqb, sym, ap, ◌∙◌, drop-drop, length-take, length-drop, arith}
+use Rattle.std.proofs.Common.{◌≡◌, ℕ, ◌+◌, ◌<◌, ◌≤◌, List, length, take, drop, eqb, ap, ◌∙◌, drop-drop, length-take, length-drop, arith}
 use Rattle.std.proofs.lemmas.List.{take-take, drop-take, get_or-take}
 use Rattle.mp_store.specs.declared.sides.Side.{Side}
 use Rattle.mp_store.specs.declared.sides.Side.TheVariants.{First, Second}

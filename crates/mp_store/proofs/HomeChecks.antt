@@ -64,7 +64,7 @@ homes_stop generation number all file place lt before this =
     subst (λ n. homes_fault generation n file ≡ Some place) e (stop_at generation more number file place before this)
 
 -- all pages
-home_none : (generation all number : ℕ) (file : List ℕ) → number < all → homes_fault generation all file ≡ None → home_fault generation number file ≡ None
+pub home_none : (generation all number : ℕ) (file : List ℕ) → number < all → homes_fault generation all file ≡ None → home_fault generation number file ≡ None
 unfolding homes_fault
 home_none generation zero number file lt h = absurd (omega arith)
 home_none generation (suc all) number file lt h =

@@ -6,3 +6,4 @@ pub mod WrittenSides
 pub mod NewSides
 pub mod ShownAfter
 pub mod FreshFiles
+pub mod SoundAfter

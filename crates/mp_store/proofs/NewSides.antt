@@ -1,13 +1,13 @@
 -- What a new side is read as.
-use Rattle.std.proofs.Common.{◌≡◌, ℕ, ◌+◌, ◌^◌, ◌<◌, List, [], ◌∷◌, drop, true, refl, ap, ◌∙◌, arith}
+use Rattle.std.proofs.Common.{◌≡◌, ℕ, ◌^◌, ◌<◌, List, [], true, refl, ap, ◌∙◌, arith}
 use Rattle.byteorder.specs.Numbers.{little_number-reads_back}
 use Rattle.mp_cells.specs.Numbers.{number_at}
 use Rattle.mp_cells.specs.PageView.{PageView, IsPage}
-use Rattle.mp_page.specs.Grammar.{spelling, header_bytes, page_of}
+use Rattle.mp_page.specs.Grammar.{spelling, header_bytes}
 use Rattle.mp_page.proofs.PageAgain.{spelling-sound}
 use Rattle.mp_store.specs.declared.headers.Header.{Header}
 use Rattle.mp_store.specs.Layout.{is_open}
-use Rattle.mp_store.specs.HeaderSides.{header_body, header_of, header_generation}
+use Rattle.mp_store.specs.HeaderSides.{header_body, header_of}
 use Rattle.mp_store.specs.PageSides.{page_body, page_generation, page_llsn, page_in}
 use Rattle.mp_store.specs.SideWrites.{open_side}
 

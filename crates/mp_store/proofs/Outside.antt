@@ -1,6 +1,6 @@
 -- Files that are the same outside a range have the same parts there; a torn file and a written one are such.
-use Rattle.std.proofs.Common.{◌≡◌, ◌⊎◌, inl, inr, ℕ, ◌+◌, ◌-◌, ◌<◌, ◌≤◌, min, List, [], ◌∷◌, ◌++◌, length, take, drop, replicate, get_or, refl, sym, ap, ◌∙◌, subst, drop-drop, length-append, length-take, length-drop, arith}
-use Rattle.std.proofs.lemmas.List.{take-take, drop-take, take_at, drop_at, get_or-take, get_or-drop}
+use Rattle.std.proofs.Common.{◌≡◌, ◌⊎◌, inl, inr, ℕ, ◌+◌, ◌-◌, ◌≤◌, min, List, ◌++◌, length, take, drop, refl, sym, ap, ◌∙◌, subst, drop-drop, length-take, length-drop, arith}
+use Rattle.std.proofs.lemmas.List.{take-take, drop-take, take_at, drop_at}
 use Rattle.mp_outside.specs.Disks.{written, first_changed, Torn}
 use Rattle.mp_outside.proofs.Images.{written_tears}
 use Rattle.mp_store.specs.Layout.{part}

@@ -1,5 +1,5 @@
 -- What a store shows where a side that isn't in force was written.
-use Rattle.std.proofs.Common.{◌≡◌, ◌≢◌, ◌⊎◌, inl, inr, ℕ, ◌+◌, ◌*◌, ◌^◌, ◌<◌, ◌≤◌, Bool, true, false, eqb, ltb, leb, List, [], ◌∷◌, length, Option, Some, None, Result, Ok, Err, OnOk, refl, sym, ap, ◌∙◌, subst, arith}
+use Rattle.std.proofs.Common.{◌≡◌, ◌≢◌, ◌⊎◌, inl, inr, ℕ, ◌+◌, ◌<◌, ◌≤◌, Bool, true, false, List, length, Option, Some, None, Result, Ok, Err, OnOk, refl, sym, ap, ◌∙◌, subst, arith}
 use Rattle.std.specs.Prelude.{◌&&◌, ◌||◌, not, nat_lt, nat_le, ◌==◌, if◌then◌else◌}
 use Rattle.std.proofs.lemmas.Bool.{cases_Bool, cases_lt, leb-true, le-leb, lt-ltb, le-ltb, true≢false}
 use Rattle.std.proofs.lemmas.Bool.Decides.{nat_tests}
@@ -18,7 +18,7 @@ use Rattle.mp_store.proofs.NewSides.{Shows}
 
 -- ---- which parts are apart
 
-header_below : (side : Side) (number : ℕ) (written : Side) → header_place side + 64 ≤ page_place number written
+pub header_below : (side : Side) (number : ℕ) (written : Side) → header_place side + 64 ≤ page_place number written
 header_below First number First = omega arith
 header_below First number Second = omega arith
 header_below Second number First = omega arith
@@ -30,7 +30,7 @@ homes_apart m n First Second lt = omega arith
 homes_apart m n Second First lt = omega arith
 homes_apart m n Second Second lt = omega arith
 
-pages_apart : (m n : ℕ) (s t : Side) → m ≢ n → (page_place m s + 1040 ≤ page_place n t) ⊎ (page_place n t + 1040 ≤ page_place m s)
+pub pages_apart : (m n : ℕ) (s t : Side) → m ≢ n → (page_place m s + 1040 ≤ page_place n t) ⊎ (page_place n t + 1040 ≤ page_place m s)
 pages_apart m n s t differ = elim (cases_lt m n) [
   | inl below ↦ inl (homes_apart m n s t below)
   | inr above ↦ inr (homes_apart n m t s (omega arith))
@@ -43,7 +43,7 @@ sides_apart n Second = inl (omega arith)
 -- ---- the header where a page's side was written
 
 module _ (number : ℕ) (written : Side) (old new : List ℕ) (h : SameOutside (page_place number written) (page_place number written + 1040) old new) where
-  header_side_kept : (side : Side) → header_side side new ≡ header_side side old
+  pub header_side_kept : (side : Side) → header_side side new ≡ header_side side old
   header_side_kept side = part_same (page_place number written) (page_place number written + 1040) (header_place side) 64 old new h (inl (header_below side number written))
 
   pub header_kept : header_in_force new ≡ header_in_force old
@@ -359,7 +359,7 @@ this_header header side old new Second second_in reads kept is =
       | inr new_ ↦ inr (home ∙ new_)
     ]
 
-other_other : (side : Side) → other (other side) ≡ side
+pub other_other : (side : Side) → other (other side) ≡ side
 other_other First = refl
 other_other Second = refl
 
@@ -376,7 +376,7 @@ header_left header side old new long reads left =
     }
 
 -- the header's side is whole, and of a greater generation
-header_read : (side : List ℕ) (header : Header) → header_of side ≡ header → header_generation side ≡ header.generation
+pub header_read : (side : List ℕ) (header : Header) → header_of side ≡ header → header_generation side ≡ header.generation
 unfolding header_of
 header_read side header reads = ap (λ h. h.generation) reads
 

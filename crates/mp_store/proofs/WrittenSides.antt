@@ -1,9 +1,9 @@
 -- At each step of writing a side it is as it was, not open, or whole.
-use Rattle.std.proofs.Common.{◌≡◌, ◌≢◌, ◌⊎◌, inl, inr, ℕ, zero, suc, ◌+◌, ◌-◌, ◌<◌, ◌≤◌, Bool, true, false, IsTrue, eqb, List, [], ◌∷◌, ◌++◌, length, take, drop, get_or, refl, sym, ap, ◌∙◌, subst, add-one, drop-drop, length-append, length-take, length-drop, arith}
-use Rattle.std.proofs.lemmas.List.{drop_more, get_or-drop, get_or-take}
+use Rattle.std.proofs.Common.{◌≡◌, ◌⊎◌, inl, inr, ℕ, suc, ◌+◌, ◌<◌, ◌≤◌, Bool, true, false, eqb, List, [], ◌∷◌, length, take, drop, get_or, refl, sym, ap, ◌∙◌, subst, arith}
+use Rattle.std.proofs.lemmas.List.{drop_more, get_or-drop}
 use Rattle.std.proofs.lemmas.Bool.{cases_Bool, eqb-true}
 use Rattle.mp_outside.specs.Disks.{written, Torn, Only}
-use Rattle.mp_gated.specs.Gates.{BodyTorn, GateTorn, Gating}
+use Rattle.mp_gated.specs.Gates.{BodyTorn, GateTorn}
 use Rattle.mp_store.specs.Layout.{part, is_open}
 use Rattle.mp_store.specs.SideWrites.{SameOutside, SideIs, SideLeft, open_side, closed, Closing}
 use Rattle.mp_store.proofs.Outside.{same, trans, wider, torn_outside, written_outside, part_written, part_same, written_over}

@@ -3,10 +3,8 @@ use Rattle.std.specs.Prelude.{◌≡◌, ◌≢◌, ◌⊎◌, ℕ, ◌+◌, ◌
 use Rattle.mp_outside.specs.Disks.{written, Torn}
 use Rattle.mp_cells.specs.PageView.{PageView}
 use Rattle.mp_store.specs.declared.headers.Header.{Header}
-use Rattle.mp_store.specs.declared.sides.Side.{Side}
 use Rattle.mp_store.specs.Layout.{part, is_open, header_place, page_place, page_side, other}
-use Rattle.mp_store.specs.HeaderSides.{header_body}
-use Rattle.mp_store.specs.PageSides.{page_body, page_generation, page_llsn, counts, idle}
+use Rattle.mp_store.specs.PageSides.{page_generation, page_llsn, counts, idle}
 use Rattle.mp_store.specs.StoreFiles.{header_in_force, header_side_in_force, page_in_force, page_side_in_force}
 
 -- two files are the same but for the bytes from here to there

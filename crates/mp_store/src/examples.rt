@@ -27,5 +27,4 @@ pub fn law_store_examples()
     // A stopped write leaves a closed gate before any body, but no open gate before another one.
     ensures closed { SideLeft 0 (165 ∷ 2 ∷ []) (165 ∷ 1 ∷ []) (0 ∷ 3 ∷ []) }
     ensures torn { SideLeft 0 (165 ∷ 2 ∷ []) (165 ∷ 1 ∷ []) (165 ∷ 3 ∷ []) → ⊥ }
-{
-}
+{}

@@ -1,12 +1,12 @@
 //! The store.
 
-ghost use Rattle.std.specs.Prelude.{◌≡◌, ℕ, ◌+◌, ◌<◌, ◌≤◌, ◌^◌, IsTrue, List, IfOk, OnOk, OnErr};
+ghost use Rattle.std.specs.Prelude.{None, ◌≡◌, ℕ, ◌+◌, ◌<◌, ◌≤◌, ◌^◌, IsTrue, List, IfOk, OnOk, OnErr};
 ghost use Rattle.mp_outside.specs.Faults.{Rose};
 ghost use Rattle.mp_outside.specs.Disks.{written, Quiet, Only};
 ghost use Rattle.mp_store.specs.Layout.{store_length};
 ghost use Rattle.mp_store.specs.HeaderSides.{IsHeader, header_body};
 ghost use Rattle.mp_store.specs.PageSides.{page_body};
-ghost use Rattle.mp_store.specs.StoreFiles.{header_in_force, page_in_force, page_fault_in_force, first_fault};
+ghost use Rattle.mp_store.specs.StoreFiles.{header_in_force, page_in_force, page_fault_in_force, homes_fault, roots_fault, is_map, is_root, first_fault};
 ghost use Rattle.mp_store.specs.Answers.{Finds, HasCause};
 ghost use Rattle.mp_store.specs.SideWrites.{SideLeft, PageLeft, HeaderLeft, open_side, yields, kept_side, idle_place, idle_header_place};
 
@@ -76,6 +76,9 @@ impl Store {
             → IfOk result (λ page. page ≡ page_in_force self.now.generation number (D.seen disk.old)) }
         ensures finds { IsTrue (D.tells disk.old)
             → Finds (page_fault_in_force self.now.generation number (D.seen disk.old)) result }
+        // In a store that has no fault, no page has one.
+        ensures whole { IsTrue (D.tells disk.old) → self.now ≡ header_in_force (D.seen disk.old)
+            → first_fault (D.seen disk.old) ≡ None → Finds None result }
         ensures known { D.known disk.new ≡ D.known disk.old }
         ensures count { D.faults disk.old ≤ D.faults disk.new }
         ensures cause { store_length ≤ D.known disk.old → HasCause (D.faults disk.old) (D.faults disk.new) result }
@@ -111,6 +114,13 @@ impl Store {
         // So it leaves a store that shows the same header and other pages, and the old page or the new one.
         ensures views { IsTrue (D.tells disk.old) → Only (D.seen disk.old) (D.image disk.old) → (c : List ℕ) → D.image disk.new c
             → PageLeft self.now.generation number generation page.now (D.seen disk.old) c }
+        // So a store file stays one, where pages 0 and 1 are what they must be; and so do its homes in each generation.
+        ensures sound { IsTrue (D.tells disk.old) → Only (D.seen disk.old) (D.image disk.old)
+            → self.now ≡ header_in_force (D.seen disk.old) → first_fault (D.seen disk.old) ≡ None
+            → (number ≡ 0 → IsTrue (is_map page.now)) → (number ≡ 1 → IsTrue (is_root page.now))
+            → (c : List ℕ) → D.image disk.new c → first_fault c ≡ None }
+        ensures homes { IsTrue (D.tells disk.old) → Only (D.seen disk.old) (D.image disk.old) → (c : List ℕ) → D.image disk.new c
+            → (g : ℕ) → homes_fault g 4096 (D.seen disk.old) ≡ None → homes_fault g 4096 c ≡ None }
         ensures known { D.known disk.old ≤ D.known disk.new }
         ensures count { D.faults disk.old ≤ D.faults disk.new }
         ensures cause { store_length ≤ D.known disk.old → OnErr result (Rose (D.faults disk.old) (D.faults disk.new)) }
@@ -144,6 +154,11 @@ impl Store {
         // So it leaves a store that shows the same pages in each generation, and the old header or the new one.
         ensures views { IsTrue (D.tells disk.old) → Only (D.seen disk.old) (D.image disk.old) → (c : List ℕ) → D.image disk.new c
             → HeaderLeft header.now (D.seen disk.old) c }
+        // So a store file stays one, where the pages that the new header brings in force have no fault.
+        ensures sound { IsTrue (D.tells disk.old) → Only (D.seen disk.old) (D.image disk.old)
+            → self.old ≡ header_in_force (D.seen disk.old) → first_fault (D.seen disk.old) ≡ None
+            → homes_fault header.now.generation 4096 (D.seen disk.old) ≡ None → roots_fault header.now.generation (D.seen disk.old) ≡ None
+            → (c : List ℕ) → D.image disk.new c → first_fault c ≡ None }
         ensures known { D.known disk.old ≤ D.known disk.new }
         ensures count { D.faults disk.old ≤ D.faults disk.new }
         ensures cause { store_length ≤ D.known disk.old → OnErr result (Rose (D.faults disk.old) (D.faults disk.new)) }

@@ -1,5 +1,5 @@
 -- What is behind the head is left of the zeros.
-use Rattle.std.proofs.Common.{◌≡◌, ℕ, ◌-◌, ◌++◌, length, drop, replicate, refl, ap, ◌∙◌, rules}
+use Rattle.std.proofs.Common.{length, refl, ◌∙◌}
 use Rattle.std.proofs.lemmas.List.{drop-replicate}
 use Rattle.mp_store.proofs.fresh.filled.Goals as goal
 

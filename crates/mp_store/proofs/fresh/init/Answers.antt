@@ -1,12 +1,12 @@
 -- Zeros with the three sides in them are a fresh store.
-use Rattle.std.proofs.Common.{◌≡◌, ℕ, Bool, ◌+◌, ◌<◌, List, ◌++◌, IsTrue, OnOk, length, replicate, sym, ap, ◌∙◌, refl, subst, arith}
+use Rattle.std.proofs.Common.{◌≡◌, ℕ, Bool, ◌<◌, List, ◌++◌, IsTrue, length, replicate, sym, ap, ◌∙◌, subst, arith}
 use Rattle.std.proofs.lemmas.Result.{on_ok_weaker}
 use Rattle.byteorder.specs.Endian.{little_bytes}
 use Rattle.mp_outside.specs.Disks.{written, Only}
 use Rattle.mp_store.specs.Layout.{store_length}
 use Rattle.mp_store.specs.PageSides.{page_body}
 use Rattle.mp_store.specs.SideWrites.{open_side}
-use Rattle.mp_store.specs.FreshStores.{zeros, fresh_map, fresh_root, IsFresh}
+use Rattle.mp_store.specs.FreshStores.{zeros, fresh_map, fresh_root}
 use Rattle.mp_store.proofs.Outside.{written_outside}
 use Rattle.mp_store.proofs.FreshFiles.{length-zeros, fresh_file}
 use Rattle.mp_store.proofs.ShownAfter.{on_ok_both}

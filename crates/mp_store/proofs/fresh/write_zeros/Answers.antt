@@ -1,8 +1,7 @@
 -- A write of zeros at the end makes more of them.
-use Rattle.std.proofs.Common.{◌≡◌, ℕ, ◌+◌, ◌*◌, List, [], IsTrue, length, replicate, refl, sym, ap, ◌∙◌, arith}
+use Rattle.std.proofs.Common.{◌≡◌, ℕ, ◌+◌, ◌*◌, IsTrue, replicate, refl, sym, ap, ◌∙◌, arith}
 use Rattle.std.proofs.lemmas.List.{nil_from_length}
 use Rattle.mp_outside.specs.Disks.{written}
-use Rattle.mp_store.specs.FreshStores.{zeros}
 use Rattle.mp_store.proofs.FreshFiles.{zeros_more, zeros_none}
 use Rattle.mp_store.proofs.fresh.write_zeros.Goals as goal
 

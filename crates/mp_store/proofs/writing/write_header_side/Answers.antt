@@ -1,9 +1,8 @@
 -- What writing the side leaves, at the place of the side that isn't in force.
 use Rattle.std.proofs.Common.{◌≡◌, ℕ, ◌+◌, ◌≤◌, List, IsTrue, length, drop, sym, ap, ◌∙◌, arith}
 use Rattle.mp_outside.specs.Disks.{Only}
-use Rattle.mp_store.specs.declared.sides.Side.{Side}
 use Rattle.mp_store.specs.declared.sides.Side.TheVariants.{First, Second}
-use Rattle.mp_store.specs.Layout.{is_open, pick, header_place, header_side, other}
+use Rattle.mp_store.specs.Layout.{is_open, header_place, header_side, other}
 use Rattle.mp_store.specs.HeaderSides.{header_in}
 use Rattle.mp_store.specs.StoreFiles.{header_side_in_force}
 use Rattle.mp_store.specs.SideWrites.{open_side, idle_header_place}

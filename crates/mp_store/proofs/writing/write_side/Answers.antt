@@ -1,5 +1,5 @@
 -- Closing and then writing leaves what each of them leaves.
-use Rattle.std.proofs.Common.{◌≡◌, ℕ, ◌+◌, ◌<◌, List, IsTrue, OnOk, length, ap, sym, subst, arith, ◌∙◌}
+use Rattle.std.proofs.Common.{◌≡◌, ℕ, ◌<◌, List, IsTrue, length, ap, subst, arith, ◌∙◌}
 use Rattle.std.proofs.lemmas.Result.{on_ok_weaker}
 use Rattle.mp_outside.specs.Disks.{written, Only}
 use Rattle.mp_store.specs.SideWrites.{open_side, closed}

@@ -2,9 +2,10 @@
 use Rattle.std.proofs.Common.{◌≡◌, ℕ, List, length, IsTrue, ap, sym, ◌∙◌, subst, arith}
 use Rattle.mp_store.specs.declared.headers.Header.{Header}
 use Rattle.mp_store.specs.PageSides.{page_body}
-use Rattle.mp_store.specs.SideWrites.{PageLeft, open_side, yields, kept_side}
+use Rattle.mp_store.specs.SideWrites.{SideLeft, PageLeft, open_side, yields, kept_side, idle_place}
 use Rattle.mp_store.proofs.NewSides.{Shows, page_shown}
 use Rattle.mp_store.proofs.ShownAfter.{page_left, page_written, on_ok_both}
+use Rattle.mp_store.proofs.SoundAfter.{page_sound, page_homes}
 use Rattle.mp_store.proofs.store.Store.write_page.Goals as goal
 
 pub returns-clause-shown : goal.returns-clause-shown
@@ -29,3 +30,24 @@ returns-clause-views g c = λ tells. λ only. λ image. λ left.
     let shows : Shows (open_side body) generation page = subst (λ (b : List ℕ). Shows (open_side b) generation page) (sym c.page_body.ensures.body) (page_shown generation page c.ranges.generation.fits c.page_body.ensures.page) in
     subst (λ (h : Header). PageLeft h.generation c.args.number generation page old image) c.self.view_is
     (page_left c.self.inside.header.generation c.args.number generation page (open_side body) old image long shows (c.write_page_side.ensures.images tells only image left))
+
+pub returns-clause-sound : goal.returns-clause-sound
+unfolding page_body
+returns-clause-sound g c = λ tells. λ only. λ is. λ sound. λ fits_map. λ fits_root. λ image. λ left.
+    let old = g.D.Disk.seen c.args.disk.now in
+    let page = c.args.page.now in
+    let generation = c.args.generation in
+    let body = c.page_body.ensures.body in
+    let long : length (open_side (page_body generation page)) ≡ 1040 = omega (arith, ap length body, c.page_body.ensures.long) in
+    let left' = subst (λ (b : List ℕ). SideLeft (idle_place c.self.inside.header.generation c.args.number old) (open_side b) old image) body (c.write_page_side.ensures.images tells only image left) in
+    page_sound c.self.inside.header c.args.number generation page old image long c.requires.generation c.ranges.generation.fits c.page_body.ensures.page left' (c.self.view_is ∙ is) sound fits_map fits_root
+
+pub returns-clause-homes : goal.returns-clause-homes
+returns-clause-homes g c = λ tells. λ only. λ image. λ left. λ store. λ was.
+    let old = g.D.Disk.seen c.args.disk.now in
+    let page = c.args.page.now in
+    let generation = c.args.generation in
+    let body = c.page_body.ensures.body in
+    let long : length (open_side (page_body generation page)) ≡ 1040 = omega (arith, ap length body, c.page_body.ensures.long) in
+    let left' = subst (λ (b : List ℕ). SideLeft (idle_place c.self.inside.header.generation c.args.number old) (open_side b) old image) body (c.write_page_side.ensures.images tells only image left) in
+    page_homes c.self.inside.header.generation c.args.number generation page old image long c.requires.generation c.ranges.generation.fits c.page_body.ensures.page left' store was
