@@ -1,0 +1,4 @@
+pub mod Texts
+pub mod Forced
+pub mod Appended
+pub mod OneText

@@ -1,0 +1,11 @@
+//! The log of one primary: a file of batches of mini-transactions, each behind a gate that is opened once the batch is
+//! safe. It hides the gates and the order of the device's calls: a crash leaves whole batches.
+#![tactic(auto)]
+
+mod bodies;
+mod laws;
+mod log;
+mod tails;
+
+pub use laws::law_log_text;
+pub use log::Log;

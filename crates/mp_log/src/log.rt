@@ -1,0 +1,109 @@
+//! The log.
+
+ghost use Rattle.std.specs.Prelude.{◌≡◌, ◌<◌, ◌≤◌, [], ◌∷◌, ◌++◌, List, ℕ, true, false, length, IsTrue, OnOk, OnErr, IsOk, IsErr};
+ghost use Rattle.mp_outside.specs.Disks.{Counts};
+ghost use Rattle.mp_gated.specs.Gates.{calls_after, Made};
+ghost use Rattle.mp_cells.specs.declared.records.Mtr.{Mtr};
+ghost use Rattle.mp_cells.specs.Mtrs.{IsMtr};
+ghost use Rattle.mp_redo.specs.Spelling.{mtr_bytes};
+ghost use Rattle.mp_log.specs.Logs.{with_batch, HoldsOnly, HoldsEither};
+ghost use Rattle.mp_log.specs.Tails.{room_of, Stands};
+
+use crate::bodies::Body;
+use crate::tails::Tail;
+use mp_cells::Mtr;
+use mp_gated::write_gated;
+use mp_outside::{Disk, Failed};
+
+/// The log of a primary, open at its end. It owns its disk.
+#[derive(Debug, Drop)]
+pub struct Log<D: Disk> {
+    disk: D,
+    tail: Tail,
+    body: Body,
+}
+
+impl<D: Disk> Log<D> {
+    /// Whether it takes mtrs: until a `force` is refused.
+    pub fn is_open(&self) -> bool
+        ensures { result ≡ self.now.tail.live }
+    {
+        self.tail.is_live()
+    }
+
+    /// How many bytes of mtrs may still be appended before the next `force`: 65,536, less what was appended since the
+    /// last; none at a place of 2^63 or more.
+    pub fn room(&self) -> usize
+        ensures { result ≡ room_of self.now.tail }
+    {
+        self.tail.room()
+    }
+
+    /// Hands the disk back as it is, also where the log is closed. What was appended and not forced is given up.
+    pub fn into_disk(self) -> D
+        ensures { result ≡ self.disk }
+    {
+        let Log { disk, .. } = self;
+        disk
+    }
+
+    /// Adds an mtr to those that the next `force` writes. The log is open, the mtr is its primary's and may stand in a
+    /// log, there is room for it, and its LLSN is above all before. It takes no memory and leaves the disk alone.
+    pub fn append(&mut self, mtr: &Mtr)
+        requires live { self.old.tail.live ≡ true }
+        requires sound { IsMtr mtr.now }
+        requires node { mtr.now.node ≡ self.old.tail.node }
+        requires room { length (mtr_bytes mtr.now) ≤ room_of self.old.tail }
+        requires above { self.old.tail.last < mtr.now.llsn }
+        ensures disk { self.new.disk ≡ self.old.disk }
+        ensures tail { self.new.tail ≡ record self.old.tail { last = mtr.now.llsn; bytes = self.old.tail.bytes ++ mtr_bytes mtr.now } }
+        // What the log holds stays, and the mtr is appended to what was.
+        ensures appended { (batches : List (List Mtr)) (pending : List Mtr)
+            → Stands batches pending self.old.tail (D.seen self.old.disk) (D.image self.old.disk)
+            → Stands batches (pending ++ mtr.now ∷ []) self.new.tail (D.seen self.new.disk) (D.image self.new.disk) }
+    {
+        self.tail.append(mtr);
+    }
+
+    /// Makes what was appended safe as one batch. The log is open. With nothing appended it answers Ok and touches
+    /// nothing. Otherwise it writes the batch behind its closed gate, syncs, opens the gate, and syncs. It is refused
+    /// where one of these calls is, and then the log is closed: open it again from its disk. It takes no memory.
+    pub fn force(&mut self) -> Result<(), Failed>
+        requires { self.old.tail.live ≡ true }
+        ensures tells { D.tells self.new.disk ≡ D.tells self.old.disk }
+        // After Ok the log holds one batch more, and each image holds exactly its batches.
+        ensures forced { (batches : List (List Mtr)) (pending : List Mtr) → IsTrue (D.tells self.old.disk)
+            → Stands batches pending self.old.tail (D.seen self.old.disk) (D.image self.old.disk)
+            → OnOk result (Stands (with_batch batches pending) [] self.new.tail (D.seen self.new.disk) (D.image self.new.disk)) }
+        // After a refusal each image holds the batches before, or these and the whole new one.
+        ensures either { (batches : List (List Mtr)) (pending : List Mtr) → IsTrue (D.tells self.old.disk)
+            → Stands batches pending self.old.tail (D.seen self.old.disk) (D.image self.old.disk)
+            → HoldsEither batches (with_batch batches pending) (D.image self.new.disk) }
+        // Where the gate wasn't written, each image holds the batches before.
+        ensures unreached { (batches : List (List Mtr)) (pending : List Mtr) → IsTrue (D.tells self.old.disk)
+            → Stands batches pending self.old.tail (D.seen self.old.disk) (D.image self.old.disk)
+            → D.calls self.new.disk < calls_after 3 (D.calls self.old.disk) → HoldsOnly batches (D.image self.new.disk) }
+        ensures nothing { self.old.tail.bytes ≡ [] → IsOk result × (self.new.disk ≡ self.old.disk) × (self.new.tail ≡ self.old.tail) }
+        ensures live { OnOk result (self.new.tail.live ≡ true) }
+        ensures closed { OnErr result (self.new.tail.live ≡ false) }
+        ensures node { self.new.tail.node ≡ self.old.tail.node }
+        ensures last { self.new.tail.last ≡ self.old.tail.last }
+        ensures known { D.known self.old.disk ≤ D.known self.new.disk }
+        ensures counts { Counts result (D.faults self.old.disk) (D.faults self.new.disk) }
+    {
+        if self.tail.is_empty() {
+            return Ok(());
+        }
+        self.body.fill(self.tail.bytes());
+        match write_gated(&mut self.disk, self.tail.place(), self.body.as_slice()) {
+            Ok(()) => {
+                self.tail.move_on();
+                Ok(())
+            }
+            Err(Failed) => {
+                self.tail.close();
+                Err(Failed)
+            }
+        }
+    }
+}
