@@ -2,3 +2,4 @@ pub mod Texts
 pub mod Forced
 pub mod Appended
 pub mod OneText
+pub mod Emptied

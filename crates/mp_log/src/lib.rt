@@ -5,7 +5,9 @@
 mod bodies;
 mod laws;
 mod log;
+mod resetting;
 mod tails;
 
 pub use laws::law_log_text;
 pub use log::Log;
+pub use resetting::reset;
