@@ -3,3 +3,5 @@ pub mod Forced
 pub mod Appended
 pub mod OneText
 pub mod Emptied
+pub mod Counts
+pub mod Checked

@@ -2,12 +2,15 @@
 //! safe. It hides the gates and the order of the device's calls: a crash leaves whole batches.
 #![tactic(auto)]
 
+mod batches;
 mod bodies;
 mod laws;
 mod log;
+mod refusals;
 mod resetting;
 mod tails;
 
 pub use laws::law_log_text;
 pub use log::Log;
+pub use refusals::LogRefusal;
 pub use resetting::reset;

@@ -5,10 +5,8 @@ ghost use Rattle.mp_outside.specs.Disks.{Quiet, Counts};
 ghost use Rattle.mp_cells.specs.declared.records.Mtr.{Mtr};
 ghost use Rattle.mp_log.specs.Logs.{IsText, HoldsOnly, HoldsEither};
 
+use crate::batches::OPEN;
 use mp_outside::{Disk, Failed, byte_at};
-
-/// The byte of an open gate. Any other byte is a closed one.
-const OPEN: u8 = 165;
 
 /// Empties a log, whatever its file holds: closes its first gate, unless it is closed, syncs, cuts the file to that gate,
 /// and syncs. It is refused where one of these calls or a read is. A gate that is closed isn't written, since a crash

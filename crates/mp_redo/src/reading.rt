@@ -1,6 +1,6 @@
 //! Mtrs read from bytes.
 
-ghost use Rattle.std.specs.Prelude.{◌≡◌, ◌⊎◌, ℕ, ◌+◌, ◌*◌, ◌<◌, ◌≤◌, List, [], ◌++◌, length, take, Some, Ok, Err, IfOk};
+ghost use Rattle.std.specs.Prelude.{◌≡◌, ◌⊎◌, ℕ, ◌+◌, ◌*◌, ◌<◌, ◌≤◌, List, [], ◌++◌, length, take, Some, Ok, Err, IfOk, IfErr};
 ghost use Rattle.mp_cells.specs.Numbers.{number_at};
 ghost use Rattle.mp_cells.specs.PageView.{are_fences};
 ghost use Rattle.mp_cells.specs.Rows.{is_writer};
@@ -47,6 +47,7 @@ fn number(width: usize, least: u64, most: u64, bytes: &[u8], at: usize) -> Resul
     requires high { width ≤ 8 }
     requires within { at ≤ length bytes.now }
     ensures exact { result ≡ number width least most bytes.now at }
+    ensures inside { IfErr result (λ place. place ≤ length bytes.now) }
     ensures most { IfOk result (λ n. n ≤ most) }
     ensures room { IfOk result (λ n. at + width ≤ length bytes.now) }
 {
@@ -66,6 +67,7 @@ fn number(width: usize, least: u64, most: u64, bytes: &[u8], at: usize) -> Resul
 fn row_at(bytes: &[u8], at: usize) -> Result<Row, usize>
     requires { at ≤ length bytes.now }
     ensures exact { result ≡ row_at bytes.now at }
+    ensures inside { IfErr result (λ place. place ≤ length bytes.now) }
     ensures room { IfOk result (λ row. at + 64 ≤ length bytes.now) }
 {
     if bytes.len() - at < 64 {
@@ -82,6 +84,7 @@ fn row_at(bytes: &[u8], at: usize) -> Result<Row, usize>
 fn child_at(bytes: &[u8], at: usize) -> Result<Child, usize>
     requires { at ≤ length bytes.now }
     ensures exact { result ≡ child_at bytes.now at }
+    ensures inside { IfErr result (λ place. place ≤ length bytes.now) }
     ensures room { IfOk result (λ child. at + 8 ≤ length bytes.now) }
 {
     if bytes.len() - at < 8 {
@@ -98,6 +101,7 @@ fn child_at(bytes: &[u8], at: usize) -> Result<Child, usize>
 fn id_at(bytes: &[u8], at: usize) -> Result<TrxId, usize>
     requires { at ≤ length bytes.now }
     ensures exact { result ≡ id_at bytes.now at }
+    ensures inside { IfErr result (λ place. place ≤ length bytes.now) }
     ensures room { IfOk result (λ id. at + 8 ≤ length bytes.now) }
 {
     if bytes.len() - at < 8 {
@@ -133,6 +137,7 @@ fn is_writer(id: TrxId) -> bool
 fn row_in(least: u64, high: u64, bytes: &[u8], at: usize) -> Result<Row, usize>
     requires { at ≤ length bytes.now }
     ensures exact { result ≡ row_in least high bytes.now at }
+    ensures inside { IfErr result (λ place. place ≤ length bytes.now) }
     ensures room { IfOk result (λ row. at + 64 ≤ length bytes.now) }
 {
     let row = match row_at(bytes, at) {
@@ -151,6 +156,7 @@ fn row_in(least: u64, high: u64, bytes: &[u8], at: usize) -> Result<Row, usize>
 fn child_in(least: u64, high: u64, bytes: &[u8], at: usize) -> Result<Child, usize>
     requires { at ≤ length bytes.now }
     ensures exact { result ≡ child_in least high bytes.now at }
+    ensures inside { IfErr result (λ place. place ≤ length bytes.now) }
     ensures room { IfOk result (λ child. at + 8 ≤ length bytes.now) }
 {
     let child = child_at(bytes, at)?;
@@ -167,6 +173,7 @@ fn rows_in(count: usize, low: u64, high: u64, bytes: &[u8], at: usize) -> Result
     requires most { count ≤ 15 }
     requires within { at ≤ length bytes.now }
     ensures exact { result ≡ rows_in count low high bytes.now at }
+    ensures inside { IfErr result (λ place. place ≤ length bytes.now) }
     ensures room { IfOk result (λ rows. at + 64 * count ≤ length bytes.now) }
 {
     let mut rows = RowCells::new();
@@ -193,6 +200,7 @@ fn children_in(
     requires most { count ≤ 124 }
     requires within { at ≤ length bytes.now }
     ensures exact { result ≡ children_in count low high bytes.now at }
+    ensures inside { IfErr result (λ place. place ≤ length bytes.now) }
     ensures room { IfOk result (λ children. at + 8 * count ≤ length bytes.now) }
 {
     let mut children = ChildCells::new();
@@ -209,6 +217,7 @@ fn children_in(
 fn fences_at(bytes: &[u8], at: usize) -> Result<(u64, u64), usize>
     requires { at ≤ length bytes.now }
     ensures exact { result ≡ fences_at bytes.now at }
+    ensures inside { IfErr result (λ place. place ≤ length bytes.now) }
     ensures room { IfOk result (λ fences. at + 16 ≤ length bytes.now) }
 {
     let low = number(8, 0, u64::MAX, bytes, at)?;
@@ -230,6 +239,7 @@ fn are_fences(low: u64, high: u64) -> bool
 fn make_leaf_at(bytes: &[u8], at: usize) -> Result<(Change, usize), usize>
     requires { at ≤ length bytes.now }
     ensures exact { result ≡ make_leaf_at bytes.now at }
+    ensures inside { IfErr result (λ place. place ≤ length bytes.now) }
     ensures room { IfOk result (λ change. change.1 ≤ length bytes.now) }
 {
     let (low, high) = fences_at(bytes, at)?;
@@ -242,6 +252,7 @@ fn make_leaf_at(bytes: &[u8], at: usize) -> Result<(Change, usize), usize>
 fn make_inner_at(bytes: &[u8], at: usize) -> Result<(Change, usize), usize>
     requires { at ≤ length bytes.now }
     ensures exact { result ≡ make_inner_at bytes.now at }
+    ensures inside { IfErr result (λ place. place ≤ length bytes.now) }
     ensures room { IfOk result (λ change. change.1 ≤ length bytes.now) }
 {
     let (low, high) = fences_at(bytes, at)?;
@@ -262,6 +273,7 @@ fn make_inner_at(bytes: &[u8], at: usize) -> Result<(Change, usize), usize>
 fn change_at(kind: ChangeKind, bytes: &[u8], at: usize) -> Result<(Change, usize), usize>
     requires { at ≤ length bytes.now }
     ensures exact { result ≡ change_at kind bytes.now at }
+    ensures inside { IfErr result (λ place. place ≤ length bytes.now) }
     ensures room { IfOk result (λ change. change.1 ≤ length bytes.now) }
 {
     match kind {
@@ -280,6 +292,7 @@ fn change_at(kind: ChangeKind, bytes: &[u8], at: usize) -> Result<(Change, usize
 fn put_row_at(bytes: &[u8], at: usize) -> Result<(Change, usize), usize>
     requires { at ≤ length bytes.now }
     ensures exact { result ≡ change_at PutRow bytes.now at }
+    ensures inside { IfErr result (λ place. place ≤ length bytes.now) }
     ensures room { IfOk result (λ change. change.1 ≤ length bytes.now) }
 {
     match row_at(bytes, at) {
@@ -291,6 +304,7 @@ fn put_row_at(bytes: &[u8], at: usize) -> Result<(Change, usize), usize>
 fn restore_row_at(bytes: &[u8], at: usize) -> Result<(Change, usize), usize>
     requires { at ≤ length bytes.now }
     ensures exact { result ≡ change_at RestoreRow bytes.now at }
+    ensures inside { IfErr result (λ place. place ≤ length bytes.now) }
     ensures room { IfOk result (λ change. change.1 ≤ length bytes.now) }
 {
     match row_at(bytes, at) {
@@ -302,6 +316,7 @@ fn restore_row_at(bytes: &[u8], at: usize) -> Result<(Change, usize), usize>
 fn put_undo_at(bytes: &[u8], at: usize) -> Result<(Change, usize), usize>
     requires { at ≤ length bytes.now }
     ensures exact { result ≡ change_at PutUndo bytes.now at }
+    ensures inside { IfErr result (λ place. place ≤ length bytes.now) }
     ensures room { IfOk result (λ change. change.1 ≤ length bytes.now) }
 {
     match row_at(bytes, at) {
@@ -313,6 +328,7 @@ fn put_undo_at(bytes: &[u8], at: usize) -> Result<(Change, usize), usize>
 fn cut_at(bytes: &[u8], at: usize) -> Result<(Change, usize), usize>
     requires { at ≤ length bytes.now }
     ensures exact { result ≡ change_at Cut bytes.now at }
+    ensures inside { IfErr result (λ place. place ≤ length bytes.now) }
     ensures room { IfOk result (λ change. change.1 ≤ length bytes.now) }
 {
     let from = number(4, 0, u64::from(u32::MAX), bytes, at)? as u32;
@@ -322,6 +338,7 @@ fn cut_at(bytes: &[u8], at: usize) -> Result<(Change, usize), usize>
 fn put_child_at(bytes: &[u8], at: usize) -> Result<(Change, usize), usize>
     requires { at ≤ length bytes.now }
     ensures exact { result ≡ change_at PutChild bytes.now at }
+    ensures inside { IfErr result (λ place. place ≤ length bytes.now) }
     ensures room { IfOk result (λ change. change.1 ≤ length bytes.now) }
 {
     let child = child_at(bytes, at)?;
@@ -331,6 +348,7 @@ fn put_child_at(bytes: &[u8], at: usize) -> Result<(Change, usize), usize>
 fn take_page_at(bytes: &[u8], at: usize) -> Result<(Change, usize), usize>
     requires { at ≤ length bytes.now }
     ensures exact { result ≡ change_at TakePage bytes.now at }
+    ensures inside { IfErr result (λ place. place ≤ length bytes.now) }
     ensures room { IfOk result (λ change. change.1 ≤ length bytes.now) }
 {
     let page = number(2, 2, 4095, bytes, at)? as u16;
@@ -363,6 +381,7 @@ fn page_record_at(
 ) -> Result<(Record, usize), usize>
     requires { at ≤ length bytes.now }
     ensures exact { result ≡ page_record_at kind llsn bytes.now at }
+    ensures inside { IfErr result (λ place. place ≤ length bytes.now) }
     ensures room { IfOk result (λ item. item.1 ≤ length bytes.now) }
 {
     let page = number(2, 0, 4095, bytes, at)? as u16;
@@ -377,6 +396,7 @@ fn page_record_at(
 fn commit_at(bytes: &[u8], at: usize) -> Result<(Record, usize), usize>
     requires { at ≤ length bytes.now }
     ensures exact { result ≡ commit_at bytes.now at }
+    ensures inside { IfErr result (λ place. place ≤ length bytes.now) }
     ensures room { IfOk result (λ item. item.1 ≤ length bytes.now) }
 {
     let id = id_at(bytes, at)?;
@@ -399,6 +419,7 @@ fn most_kind(count: u64) -> u64
 fn record_at(most: u64, llsn: u64, bytes: &[u8], at: usize) -> Result<(Record, usize), usize>
     requires { at ≤ length bytes.now }
     ensures exact { result ≡ record_at most llsn bytes.now at }
+    ensures inside { IfErr result (λ place. place ≤ length bytes.now) }
     ensures room { IfOk result (λ item. item.1 ≤ length bytes.now) }
 {
     let kind = number(1, 1, most, bytes, at)?;
@@ -422,6 +443,7 @@ fn records_at(
     requires within { at ≤ length bytes.now }
     requires none { into.old ≡ [] }
     ensures exact { and_then result (λ end. Ok (into.new, end)) ≡ records_at count most llsn bytes.now at }
+    ensures inside { IfErr result (λ place. place ≤ length bytes.now) }
     ensures room { IfOk result (λ end. end ≤ length bytes.now) }
 {
     let mut end = at;
@@ -440,7 +462,8 @@ fn records_at(
 // The mtr in front of the bytes, and where it ends. Its records go into a list without any.
 fn mtr_at(records: Records, bytes: &[u8]) -> Result<(Mtr, usize), usize>
     requires { records ≡ [] }
-    ensures { result ≡ mtr_at bytes.now }
+    ensures exact { result ≡ mtr_at bytes.now }
+    ensures inside { IfErr result (λ place. place ≤ length bytes.now) }
 {
     let node = number(1, 1, 8, bytes, 0)? as u8;
     let count = number(1, 1, 20, bytes, 1)?;
@@ -469,6 +492,7 @@ pub fn decode(alloc: Global, bytes: &[u8]) -> Result<(Mtr, usize), RedoRefusal>
     ensures only { (mtr : Mtr) (rest : List ℕ) → IsMtr mtr → bytes.now ≡ mtr_bytes mtr ++ rest → (result ≡ Ok (mtr, length (mtr_bytes mtr))) ⊎ (result ≡ Err Memory) }
     // Which fault it is.
     ensures fault { (place : ℕ) → result ≡ Err (Fault place) → first_fault bytes.now ≡ Some place }
+    ensures inside { (place : ℕ) → result ≡ Err (Fault place) → place ≤ length bytes.now }
 {
     let Ok(records) = Records::with_room(alloc) else {
         return Err(RedoRefusal::Memory);

@@ -1,0 +1,95 @@
+-- What a log's file is read as: its batches, or the place of the first fault.
+use Rattle.std.specs.Prelude.{ℕ, zero, suc, ◌+◌, ◌==◌, ◌&&◌, nat_le, nat_lt, if◌then◌else◌, ◌≡◌, Bool, List, [], ◌∷◌, ◌++◌, length, map, take, drop, slice_index, Option, Some, None, Result, Ok, Err}
+use Rattle.std.specs.List.{AllByRecursion}
+use Rattle.mp_outside.specs.Faults.{Rose}
+use Rattle.mp_cells.specs.declared.records.Mtr.{Mtr}
+use Rattle.mp_cells.specs.Mtrs.{IsMtr}
+use Rattle.mp_cells.specs.Numbers.{number_at}
+use Rattle.mp_redo.specs.Reading.{Read, and_then, field, mtr_at, fault_of}
+use Rattle.mp_log.specs.declared.refusals.LogRefusal.{LogRefusal}
+use Rattle.mp_log.specs.declared.refusals.LogRefusal.TheVariants.{Fault, Disk, Memory}
+use Rattle.mp_log.specs.Logs.{open_gate, most_bytes, batch_bytes, last_after}
+
+-- whether the gate at a place is open; a fault there where the file ends
+abbrev pub gate_at : List ℕ → ℕ → Read Bool
+gate_at file place = field place (nat_lt place (length file)) (slice_index file place == open_gate)
+
+-- a count of bytes that a batch may have, with the next gate behind them in a file of this size
+abbrev pub is_count : ℕ → ℕ → ℕ → Bool
+is_count size gate count = nat_le 1 count && nat_le count most_bytes && nat_le (gate + (6 + count)) size
+
+-- how many bytes the batch behind the gate at a place has
+abbrev pub count_at : List ℕ → ℕ → Read ℕ
+count_at file gate = let count = number_at (gate + 1) 4 file in field (gate + 1) (nat_le (gate + 5) (length file) && is_count (length file) gate count) count
+
+-- the same where the gate is open; none where it is closed
+abbrev pub open_at : List ℕ → ℕ → Read (Option ℕ)
+open_at file gate = and_then (gate_at file gate) (λ is_open. if is_open then and_then (count_at file gate) (λ count. Ok (Some count)) else Ok None)
+
+-- what was read of a part, by its place in the file
+abbrev pub from_place : {A : Type 0} → ℕ → Read A → Read A
+from_place place (Ok x) = Ok x
+from_place place (Err fault) = Err (place + fault)
+
+-- the mtrs that these bytes are, which lie from a place on: each is of the node and has an LLSN above the one before
+abbrev pub mtrs_at : ℕ → ℕ → ℕ → List ℕ → ℕ → Read (List Mtr)
+mtrs_at fuel node last [] place = Ok []
+mtrs_at zero node last (byte ∷ bytes) place = Err place
+mtrs_at (suc fuel) node last (byte ∷ bytes) place =
+    and_then (from_place place (mtr_at (byte ∷ bytes))) (λ found.
+    and_then (field place (found.0.node == node && nat_lt last found.0.llsn) found.0) (λ mtr.
+    and_then (mtrs_at fuel node mtr.llsn (drop found.1 (byte ∷ bytes)) (place + found.1)) (λ mtrs.
+    Ok (mtr ∷ mtrs))))
+
+-- the mtrs of the batch behind the gate at a place, with so many bytes
+abbrev pub batch_at : ℕ → ℕ → List ℕ → ℕ → ℕ → Read (List Mtr)
+batch_at node last file gate count = mtrs_at count node last (take count (drop (gate + 5) file)) (gate + 5)
+
+-- the batches from a gate on, and the place of the closed gate behind them, where `more` gives those behind the first
+abbrev pub batches_from : ℕ → ℕ → List ℕ → ℕ → (ℕ → ℕ → Read (List (List Mtr) × ℕ)) → Option ℕ → Read (List (List Mtr) × ℕ)
+batches_from node last file gate more None = Ok ([], gate)
+batches_from node last file gate more (Some count) =
+    and_then (batch_at node last file gate count) (λ batch.
+    and_then (more (last_after last batch) (gate + (5 + count))) (λ rest.
+    Ok (batch ∷ rest.0, rest.1)))
+
+abbrev pub batches_at : ℕ → ℕ → ℕ → List ℕ → ℕ → Read (List (List Mtr) × ℕ)
+batches_at zero node last file gate = Err gate
+batches_at (suc fuel) node last file gate = and_then (open_at file gate) (λ count. batches_from node last file gate (λ l g. batches_at fuel node l file g) count)
+
+-- the batches of a node's log; a batch takes more than one byte of the file
+abbrev pub log_at : ℕ → List ℕ → Read (List (List Mtr) × ℕ)
+log_at node file = batches_at (length file + 1) node 0 file 0
+
+-- the place of the first fault, where the file is no log of the node
+abbrev pub first_fault : ℕ → List ℕ → Option ℕ
+first_fault node file = fault_of (log_at node file)
+
+-- an answer that says what was read, unless the disk failed or there was no memory
+abbrev pub Tells : {A : Type 0} → Read A → Result A LogRefusal → Type 0
+Tells read (Ok x) = read ≡ Ok x
+Tells read (Err (Fault place)) = read ≡ Err place
+Tells read (Err Disk) = Unit {0}
+Tells read (Err Memory) = Unit {0}
+
+-- a refusal by the disk comes only where its count of faults rose
+abbrev pub HasCause : {A : Type 0} → ℕ → ℕ → Result A LogRefusal → Type 0
+HasCause old new (Ok x) = Unit {0}
+HasCause old new (Err (Fault place)) = Unit {0}
+HasCause old new (Err Disk) = Rose old new
+HasCause old new (Err Memory) = Unit {0}
+
+-- what a check of a batch's bytes answers and adds to a list of LLSNs: they are the bytes of these mtrs
+pub record AreChecked (read : Read (List Mtr)) (bytes : List ℕ) (last : ℕ) (old new : List ℕ) (end : ℕ) : Type 0 where
+  pub mtrs : List Mtr
+  pub is : read ≡ Ok mtrs
+  pub spelled : bytes ≡ batch_bytes mtrs
+  pub sound : AllByRecursion IsMtr mtrs
+  pub end_is : end ≡ last_after last mtrs
+  pub added : new ≡ old ++ map (λ mtr. mtr.llsn) mtrs
+
+abbrev pub Checks : Read (List Mtr) → List ℕ → ℕ → List ℕ → List ℕ → Result ℕ LogRefusal → Type 0
+Checks read bytes last old new (Ok end) = AreChecked read bytes last old new end
+Checks read bytes last old new (Err (Fault place)) = read ≡ Err place
+Checks read bytes last old new (Err Disk) = ⊥
+Checks read bytes last old new (Err Memory) = Unit {0}
