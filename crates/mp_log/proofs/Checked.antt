@@ -1,7 +1,6 @@
 -- One round of the check of a batch, and what its bytes are then.
-use Rattle.std.proofs.Common.{◌≡◌, ℕ, zero, suc, ◌+◌, ◌-◌, ◌<◌, ◌≤◌, ◌==◌, ◌&&◌, nat_lt, Bool, true, false, List, [], ◌∷◌, ◌++◌, length, map, take, drop, Result, Ok, Err, Some, refl, sym, ap, subst, ◌∙◌, arith}
-use Rattle.std.specs.List.{flat_map, AllByRecursion}
-use Rattle.std.proofs.lemmas.Bool.Decides.{nat_tests}
+use Rattle.std.proofs.Common.{◌≡◌, ℕ, suc, ◌+◌, ◌≤◌, ◌==◌, ◌&&◌, nat_lt, Bool, true, false, List, [], ◌∷◌, ◌++◌, length, map, take, drop, Ok, Err, Some, refl, sym, ap, ◌∙◌, arith}
+use Rattle.std.specs.List.{AllByRecursion}
 use Rattle.std.proofs.lemmas.List.{append_assoc, append-nil, length-append, length-take-le, take-append-drop, map-append}
 use Rattle.std.proofs.lemmas.List.Concat.{flat_map-append}
 use Rattle.mp_cells.specs.declared.records.Mtr.{Mtr}
@@ -10,6 +9,7 @@ use Rattle.mp_cells.proofs.KeyEdits.{All-append}
 use Rattle.mp_redo.specs.Spelling.{mtr_bytes, Spells}
 use Rattle.mp_redo.specs.Reading.{Read, and_then, field, mtr_at, fault_of}
 use Rattle.mp_redo.proofs.MtrSpelling.{mtr_again}
+use Rattle.mp_redo.proofs.Puts.{mtr_length}
 use Rattle.mp_log.specs.Logs.{batch_bytes, last_after}
 use Rattle.mp_log.specs.Reading.{from_place, mtrs_at, AreChecked}
 
@@ -48,19 +48,23 @@ pub record SoFar (all : Read (List Mtr)) (bytes : List ℕ) (node last0 : ℕ) (
   pub last_is : last ≡ last_after last0 front
   pub added : now ≡ old ++ map llsn_of front
 
-pub so_far_first : (node last0 place : ℕ) (bytes old : List ℕ) → SoFar (mtrs_at (length bytes) node last0 bytes place) bytes node last0 old (length bytes) last0 place bytes old
-so_far_first node last0 place bytes old = record {
+with_none : (r : Read (List Mtr)) → with_mtrs [] r ≡ r
+with_none (Ok mtrs) = refl
+with_none (Err place) = refl
+
+pub so_far_first : (node last0 place fuel : ℕ) (bytes old : List ℕ) → fuel ≡ length bytes → SoFar (mtrs_at (length bytes) node last0 bytes place) bytes node last0 old fuel last0 place bytes old
+so_far_first node last0 place fuel bytes old e = record {
   front = [];
-  reads = same (mtrs_at (length bytes) node last0 bytes place);
+  reads = with_none (mtrs_at fuel node last0 bytes place) ∙ ap (λ (n : ℕ). mtrs_at n node last0 bytes place) e;
   spelled = refl;
   sound = tt;
   last_is = refl;
   added = sym (append-nil old);
 }
-  where
-    same : (r : Read (List Mtr)) → with_mtrs [] r ≡ r
-    same (Ok mtrs) = refl
-    same (Err place) = refl
+
+-- bytes that begin with an mtr are some
+pub has_some : (mtr : Mtr) (bytes rest : List ℕ) → bytes ≡ mtr_bytes mtr ++ rest → 1 ≤ length bytes
+has_some mtr bytes rest h = omega (arith, ap length h, length-append (mtr_bytes mtr) rest, mtr_length mtr)
 
 -- the end of the bytes
 pub ended : (all : Read (List Mtr)) (bytes : List ℕ) (node last0 : ℕ) (old : List ℕ) (fuel last place : ℕ) (rest now : List ℕ) → SoFar all bytes node last0 old fuel last place rest now → rest ≡ [] → AreChecked all bytes last0 old now last

@@ -1,6 +1,6 @@
 //! Batches read from a disk.
 
-ghost use Rattle.std.specs.Prelude.{◌≡◌, ◌+◌, ◌<◌, ◌≤◌, ◌^◌, ◌++◌, IsTrue, IfOk, IfSome, OnOk, OnErr, length, take, drop};
+ghost use Rattle.std.specs.Prelude.{◌≡◌, ◌+◌, ◌<◌, ◌≤◌, ◌^◌, ◌++◌, ◌==◌, ◌&&◌, nat_lt, IsTrue, IfOk, IfSome, OnOk, OnErr, length, take, drop};
 ghost use Rattle.byteorder.specs.Endian.{little_bytes};
 ghost use Rattle.mp_outside.specs.Faults.{Rose};
 ghost use Rattle.mp_outside.specs.Disks.{Quiet};
@@ -158,6 +158,13 @@ fn mtr_at(alloc: Global, bytes: &[u8], place: u64) -> Result<(Mtr, usize), LogRe
     }
 }
 
+// Whether an mtr is of the node and has an LLSN above this one.
+fn is_next(mtr: &Mtr, node: u8, last: u64) -> bool
+    ensures { result ≡ (mtr.now.node == node && nat_lt last mtr.now.llsn) }
+{
+    mtr.node == node && last < mtr.llsn
+}
+
 /// The LLSN of the last mtr of a batch with these bytes, which lie from a place of the file on, where each mtr is of the
 /// node and has an LLSN above the one before. It adds all LLSNs to a list.
 pub(crate) fn check_batch(
@@ -179,7 +186,7 @@ pub(crate) fn check_batch(
             return Ok(last);
         }
         let (mtr, count) = mtr_at(alloc, rest, start)?;
-        if mtr.node != node || mtr.llsn <= last {
+        if !is_next(&mtr, node, last) {
             return Err(LogRefusal::Fault { place: start });
         }
         llsns.push(mtr.llsn)?;

@@ -1,7 +1,7 @@
 -- The count that was read decides.
-use Rattle.std.proofs.Common.{◌≡◌, ◌+◌, Bool, ap, sym, ◌∙◌, arith}
+use Rattle.std.proofs.Common.{◌+◌, Bool, ap, ◌∙◌, arith}
 use Rattle.mp_redo.specs.Reading.{field}
-use Rattle.mp_log.proofs.Counts.{no_count, is_field}
+use Rattle.mp_log.proofs.Counts.{is_field}
 use Rattle.mp_log.proofs.batches.count_at.Goals as goal
 
 pub returns-then-is_count-clause-exact : goal.returns-then-is_count-clause-exact

@@ -1,7 +1,5 @@
 -- What is decoded is what the bytes are read as.
-use Rattle.std.proofs.Common.{ap, arith, ◌∙◌}
-use Rattle.mp_redo.specs.Reading.{Read}
-use Rattle.mp_cells.specs.declared.records.Mtr.{Mtr}
+use Rattle.std.proofs.Common.{ap}
 use Rattle.mp_log.specs.Reading.{from_place}
 use Rattle.mp_log.proofs.Checked.{decoded}
 use Rattle.mp_log.proofs.batches.mtr_at.Goals as goal
