@@ -11,10 +11,10 @@ use Rattle.mp_redo.specs.Spelling.{mtr_bytes}
 use Rattle.mp_log.specs.Logs.{batch_bytes, mtrs_of, last_after, IsOf, AreLogged}
 use Rattle.mp_log.specs.Tails.{TailView, Stands}
 
-abbrev llsn_of : Mtr → ℕ
+abbrev pub llsn_of : Mtr → ℕ
 llsn_of mtr = mtr.llsn
 
-rises_more : (low : ℕ) (mtrs : List Mtr) (mtr : Mtr) → rises llsn_of (low + 1) (2 ^ 62) mtrs ≡ true → last_after low mtrs < mtr.llsn → mtr.llsn < 2 ^ 62 → rises llsn_of (low + 1) (2 ^ 62) (mtrs ++ mtr ∷ []) ≡ true
+pub rises_more : (low : ℕ) (mtrs : List Mtr) (mtr : Mtr) → rises llsn_of (low + 1) (2 ^ 62) mtrs ≡ true → last_after low mtrs < mtr.llsn → mtr.llsn < 2 ^ 62 → rises llsn_of (low + 1) (2 ^ 62) (mtrs ++ mtr ∷ []) ≡ true
 rises_more low [] mtr h above fits = and_from _ _ (and_from _ _ (le-leb (low + 1) mtr.llsn (omega (arith, above))) (lt-ltb mtr.llsn (2 ^ 62) fits)) refl
 rises_more low (m ∷ ms) mtr h above fits =
     let a = and_parts (nat_le (low + 1) m.llsn && nat_lt m.llsn (2 ^ 62)) (rises llsn_of (m.llsn + 1) (2 ^ 62) ms) h in

@@ -1,5 +1,5 @@
 -- One round of the check of a batch, and what its bytes are then.
-use Rattle.std.proofs.Common.{◌≡◌, ℕ, suc, ◌+◌, ◌≤◌, ◌==◌, ◌&&◌, nat_lt, Bool, true, false, List, [], ◌∷◌, ◌++◌, length, map, take, drop, Ok, Err, Some, refl, sym, ap, ◌∙◌, arith}
+use Rattle.std.proofs.Common.{◌<◌, subst, ◌^◌, ◌≡◌, ℕ, suc, ◌+◌, ◌≤◌, ◌==◌, ◌&&◌, nat_lt, Bool, true, false, List, [], ◌∷◌, ◌++◌, length, map, take, drop, Ok, Err, Some, refl, sym, ap, ◌∙◌, arith}
 use Rattle.std.specs.List.{AllByRecursion}
 use Rattle.std.proofs.lemmas.List.{append_assoc, append-nil, length-append, length-take-le, take-append-drop, map-append}
 use Rattle.std.proofs.lemmas.List.Concat.{flat_map-append}
@@ -10,7 +10,10 @@ use Rattle.mp_redo.specs.Spelling.{mtr_bytes, Spells}
 use Rattle.mp_redo.specs.Reading.{Read, and_then, field, mtr_at, fault_of}
 use Rattle.mp_redo.proofs.MtrSpelling.{mtr_again}
 use Rattle.mp_redo.proofs.Puts.{mtr_length}
-use Rattle.mp_log.specs.Logs.{batch_bytes, last_after}
+use Rattle.mp_log.specs.Logs.{batch_bytes, last_after, IsOf}
+use Rattle.mp_log.proofs.Appended.{rises_more}
+use Rattle.mp_cells.specs.Keys.{rises}
+use Rattle.std.proofs.lemmas.Bool.{and_parts, eqb-true, ltb-true}
 use Rattle.mp_log.specs.Reading.{from_place, mtrs_at, AreChecked}
 
 abbrev pub llsn_of : Mtr → ℕ
@@ -44,7 +47,8 @@ pub record SoFar (all : Read (List Mtr)) (bytes : List ℕ) (node last0 : ℕ) (
   pub front : List Mtr
   pub reads : with_mtrs front (mtrs_at fuel node last rest place) ≡ all
   pub spelled : bytes ≡ batch_bytes front ++ rest
-  pub sound : AllByRecursion IsMtr front
+  pub each : AllByRecursion (IsOf node) front
+  pub rising : rises llsn_of (last0 + 1) (2 ^ 62) front ≡ true
   pub last_is : last ≡ last_after last0 front
   pub added : now ≡ old ++ map llsn_of front
 
@@ -57,7 +61,8 @@ so_far_first node last0 place fuel bytes old e = record {
   front = [];
   reads = with_none (mtrs_at fuel node last0 bytes place) ∙ ap (λ (n : ℕ). mtrs_at n node last0 bytes place) e;
   spelled = refl;
-  sound = tt;
+  each = tt;
+  rising = refl;
   last_is = refl;
   added = sym (append-nil old);
 }
@@ -67,12 +72,13 @@ pub has_some : (mtr : Mtr) (bytes rest : List ℕ) → bytes ≡ mtr_bytes mtr +
 has_some mtr bytes rest h = omega (arith, ap length h, length-append (mtr_bytes mtr) rest, mtr_length mtr)
 
 -- the end of the bytes
-pub ended : (all : Read (List Mtr)) (bytes : List ℕ) (node last0 : ℕ) (old : List ℕ) (fuel last place : ℕ) (rest now : List ℕ) → SoFar all bytes node last0 old fuel last place rest now → rest ≡ [] → AreChecked all bytes last0 old now last
+pub ended : (all : Read (List Mtr)) (bytes : List ℕ) (node last0 : ℕ) (old : List ℕ) (fuel last place : ℕ) (rest now : List ℕ) → SoFar all bytes node last0 old fuel last place rest now → rest ≡ [] → AreChecked all bytes node last0 old now last
 ended all bytes node last0 old fuel last place rest now so none = record {
   mtrs = so.front;
   is = sym so.reads ∙ ap (λ (r : List ℕ). with_mtrs so.front (mtrs_at fuel node last r place)) none ∙ ap Ok (append-nil so.front);
   spelled = so.spelled ∙ ap (λ (r : List ℕ). batch_bytes so.front ++ r) none ∙ append-nil (batch_bytes so.front);
-  sound = so.sound;
+  each = so.each;
+  rising = so.rising;
   end_is = so.last_is;
   added = so.added;
 }
@@ -133,7 +139,8 @@ module _ (all : Read (List Mtr)) (bytes : List ℕ) (node last0 : ℕ) (old : Li
     spelled = so.spelled ∙ ap (λ (r : List ℕ). batch_bytes so.front ++ r) (spelled ∙ ap (λ (r : List ℕ). mtr_bytes mtr ++ r) (sym is_next))
         ∙ sym (append_assoc (batch_bytes so.front) (mtr_bytes mtr) next)
         ∙ ap (λ (x : List ℕ). x ++ next) (sym (flat_map-append mtr_bytes so.front (mtr ∷ []) ∙ ap (λ (x : List ℕ). batch_bytes so.front ++ x) (append-nil (mtr_bytes mtr))));
-    sound = All-append IsMtr so.front (mtr ∷ []) so.sound (sound, tt);
+    each = All-append (IsOf node) so.front (mtr ∷ []) so.each ((sound, eqb-true mtr.node node (and_parts (mtr.node == node) (nat_lt last mtr.llsn) test).0), tt);
+    rising = rises_more last0 so.front mtr so.rising (subst (λ (n : ℕ). n < mtr.llsn) so.last_is (ltb-true last mtr.llsn (and_parts (mtr.node == node) (nat_lt last mtr.llsn) test).1)) sound.llsn;
     last_is = sym (last_more last0 so.front);
     added = is_new ∙ ap (λ (x : List ℕ). x ++ mtr.llsn ∷ []) so.added ∙ append_assoc old (map llsn_of so.front) (mtr.llsn ∷ []) ∙ ap (λ (x : List ℕ). old ++ x) (sym (map-append llsn_of so.front (mtr ∷ [])));
   }

@@ -5,3 +5,4 @@ pub mod OneText
 pub mod Emptied
 pub mod Counts
 pub mod Checked
+pub mod NextBatch

@@ -1,14 +1,14 @@
 -- What a log's file is read as: its batches, or the place of the first fault.
-use Rattle.std.specs.Prelude.{ℕ, zero, suc, ◌+◌, ◌==◌, ◌&&◌, nat_le, nat_lt, if◌then◌else◌, ◌≡◌, Bool, List, [], ◌∷◌, ◌++◌, length, map, take, drop, slice_index, Option, Some, None, Result, Ok, Err}
+use Rattle.std.specs.Prelude.{ℕ, zero, suc, ◌+◌, ◌^◌, ◌==◌, ◌&&◌, nat_le, nat_lt, if◌then◌else◌, ◌≡◌, Bool, List, [], ◌∷◌, ◌++◌, length, map, take, drop, slice_index, Option, Some, None, Result, Ok, Err, IsTrue}
 use Rattle.std.specs.List.{AllByRecursion}
 use Rattle.mp_outside.specs.Faults.{Rose}
 use Rattle.mp_cells.specs.declared.records.Mtr.{Mtr}
-use Rattle.mp_cells.specs.Mtrs.{IsMtr}
+use Rattle.mp_cells.specs.Keys.{rises}
 use Rattle.mp_cells.specs.Numbers.{number_at}
 use Rattle.mp_redo.specs.Reading.{Read, and_then, field, mtr_at, fault_of}
 use Rattle.mp_log.specs.declared.refusals.LogRefusal.{LogRefusal}
 use Rattle.mp_log.specs.declared.refusals.LogRefusal.TheVariants.{Fault, Disk, Memory}
-use Rattle.mp_log.specs.Logs.{open_gate, most_bytes, batch_bytes, last_after}
+use Rattle.mp_log.specs.Logs.{open_gate, most_bytes, batch_bytes, batch_text, log_text, mtrs_of, last_after, IsOf, IsBatch, IsLog, IsText}
 
 -- whether the gate at a place is open; a fault there where the file ends
 abbrev pub gate_at : List ℕ → ℕ → Read Bool
@@ -45,17 +45,22 @@ mtrs_at (suc fuel) node last (byte ∷ bytes) place =
 abbrev pub batch_at : ℕ → ℕ → List ℕ → ℕ → ℕ → Read (List Mtr)
 batch_at node last file gate count = mtrs_at count node last (take count (drop (gate + 5) file)) (gate + 5)
 
--- the batches from a gate on, and the place of the closed gate behind them, where `more` gives those behind the first
-abbrev pub batches_from : ℕ → ℕ → List ℕ → ℕ → (ℕ → ℕ → Read (List (List Mtr) × ℕ)) → Option ℕ → Read (List (List Mtr) × ℕ)
-batches_from node last file gate more None = Ok ([], gate)
-batches_from node last file gate more (Some count) =
-    and_then (batch_at node last file gate count) (λ batch.
-    and_then (more (last_after last batch) (gate + (5 + count))) (λ rest.
-    Ok (batch ∷ rest.0, rest.1)))
+-- the next batch and the count of its bytes; none where the gate is closed
+abbrev pub batch_behind : ℕ → ℕ → List ℕ → ℕ → Option ℕ → Read (Option (List Mtr × ℕ))
+batch_behind node last file gate None = Ok None
+batch_behind node last file gate (Some count) = and_then (batch_at node last file gate count) (λ batch. Ok (Some (batch, count)))
+
+abbrev pub next_at : ℕ → ℕ → List ℕ → ℕ → Read (Option (List Mtr × ℕ))
+next_at node last file gate = and_then (open_at file gate) (λ count. batch_behind node last file gate count)
+
+-- the batches from a gate on, and the place of the closed gate behind them, where `more` gives those behind the next
+abbrev pub batches_from : ℕ → ℕ → (ℕ → ℕ → Read (List (List Mtr) × ℕ)) → Option (List Mtr × ℕ) → Read (List (List Mtr) × ℕ)
+batches_from last gate more None = Ok ([], gate)
+batches_from last gate more (Some next) = and_then (more (last_after last next.0) (gate + (5 + next.1))) (λ rest. Ok (next.0 ∷ rest.0, rest.1))
 
 abbrev pub batches_at : ℕ → ℕ → ℕ → List ℕ → ℕ → Read (List (List Mtr) × ℕ)
 batches_at zero node last file gate = Err gate
-batches_at (suc fuel) node last file gate = and_then (open_at file gate) (λ count. batches_from node last file gate (λ l g. batches_at fuel node l file g) count)
+batches_at (suc fuel) node last file gate = and_then (next_at node last file gate) (λ next. batches_from last gate (λ l g. batches_at fuel node l file g) next)
 
 -- the batches of a node's log; a batch takes more than one byte of the file
 abbrev pub log_at : ℕ → List ℕ → Read (List (List Mtr) × ℕ)
@@ -79,17 +84,52 @@ HasCause old new (Err (Fault place)) = Unit {0}
 HasCause old new (Err Disk) = Rose old new
 HasCause old new (Err Memory) = Unit {0}
 
--- what a check of a batch's bytes answers and adds to a list of LLSNs: they are the bytes of these mtrs
-pub record AreChecked (read : Read (List Mtr)) (bytes : List ℕ) (last : ℕ) (old new : List ℕ) (end : ℕ) : Type 0 where
+-- what a check of a batch's bytes answers and adds to a list of LLSNs: they are the bytes of these mtrs of the node
+pub record AreChecked (read : Read (List Mtr)) (bytes : List ℕ) (node last : ℕ) (old new : List ℕ) (end : ℕ) : Type 0 where
   pub mtrs : List Mtr
   pub is : read ≡ Ok mtrs
   pub spelled : bytes ≡ batch_bytes mtrs
-  pub sound : AllByRecursion IsMtr mtrs
+  pub each : AllByRecursion (IsOf node) mtrs
+  pub rising : IsTrue (rises (λ mtr. mtr.llsn) (last + 1) (2 ^ 62) mtrs)
   pub end_is : end ≡ last_after last mtrs
   pub added : new ≡ old ++ map (λ mtr. mtr.llsn) mtrs
 
-abbrev pub Checks : Read (List Mtr) → List ℕ → ℕ → List ℕ → List ℕ → Result ℕ LogRefusal → Type 0
-Checks read bytes last old new (Ok end) = AreChecked read bytes last old new end
-Checks read bytes last old new (Err (Fault place)) = read ≡ Err place
-Checks read bytes last old new (Err Disk) = ⊥
-Checks read bytes last old new (Err Memory) = Unit {0}
+abbrev pub Checks : Read (List Mtr) → List ℕ → ℕ → ℕ → List ℕ → List ℕ → Result ℕ LogRefusal → Type 0
+Checks read bytes node last old new (Ok end) = AreChecked read bytes node last old new end
+Checks read bytes node last old new (Err (Fault place)) = read ≡ Err place
+Checks read bytes node last old new (Err Disk) = ⊥
+Checks read bytes node last old new (Err Memory) = Unit {0}
+
+-- what the next batch is, with its count of bytes and the LLSN of its last mtr
+pub record IsNext (node last : ℕ) (file : List ℕ) (gate : ℕ) (old new : List ℕ) (count end : ℕ) : Type 0 where
+  pub batch : List Mtr
+  pub is : next_at node last file gate ≡ Ok (Some (batch, count))
+  pub spelled : drop gate file ≡ batch_text batch ++ drop (gate + (5 + count)) file
+  pub count_is : count ≡ length (batch_bytes batch)
+  pub sized : IsBatch batch
+  pub each : AllByRecursion (IsOf node) batch
+  pub rising : IsTrue (rises (λ mtr. mtr.llsn) (last + 1) (2 ^ 62) batch)
+  pub end_is : end ≡ last_after last batch
+  pub added : new ≡ old ++ map (λ mtr. mtr.llsn) batch
+
+abbrev pub Nexts : ℕ → ℕ → List ℕ → ℕ → List ℕ → List ℕ → Result (Option (ℕ × ℕ)) LogRefusal → Type 0
+Nexts node last file gate old new (Ok None) = (next_at node last file gate ≡ Ok None) × (new ≡ old)
+Nexts node last file gate old new (Ok (Some next)) = IsNext node last file gate old new next.0 next.1
+Nexts node last file gate old new (Err (Fault place)) = next_at node last file gate ≡ Err place
+Nexts node last file gate old new (Err Disk) = Unit {0}
+Nexts node last file gate old new (Err Memory) = Unit {0}
+
+-- what a whole log is: its batches, the place of its closed gate, and the LLSN of its last mtr
+pub record IsReadLog (node : ℕ) (file old new : List ℕ) (place last : ℕ) : Type 0 where
+  pub batches : List (List Mtr)
+  pub log : IsLog node batches
+  pub text : IsText batches file
+  pub place_is : place ≡ length (log_text batches)
+  pub last_is : last ≡ last_after 0 (mtrs_of batches)
+  pub added : new ≡ old ++ map (λ mtr. mtr.llsn) (mtrs_of batches)
+
+abbrev pub ReadsLog : ℕ → List ℕ → List ℕ → List ℕ → Result (ℕ × ℕ) LogRefusal → Type 0
+ReadsLog node file old new (Ok end) = IsReadLog node file old new end.0 end.1
+ReadsLog node file old new (Err (Fault place)) = log_at node file ≡ Err place
+ReadsLog node file old new (Err Disk) = Unit {0}
+ReadsLog node file old new (Err Memory) = Unit {0}

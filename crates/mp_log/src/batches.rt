@@ -7,7 +7,7 @@ ghost use Rattle.mp_outside.specs.Disks.{Quiet};
 ghost use Rattle.mp_cells.specs.Mtrs.{IsMtr};
 ghost use Rattle.mp_redo.specs.Spelling.{mtr_bytes};
 ghost use Rattle.mp_redo.specs.Reading.{mtr_at};
-ghost use Rattle.mp_log.specs.Reading.{gate_at, is_count, count_at, open_at, mtrs_at, from_place, Tells, HasCause, Checks};
+ghost use Rattle.mp_log.specs.Reading.{gate_at, is_count, count_at, open_at, mtrs_at, from_place, Tells, HasCause, Checks, Nexts};
 
 use crate::refusals::LogRefusal;
 use mp_cells::{Mtr, u32_at};
@@ -18,6 +18,14 @@ use std::alloc::Global;
 
 /// The LLSNs of the mtrs that a log held when it was opened, in their order.
 pub type Llsns = Items<u64>;
+
+/// A place in a node's log: a gate, and the LLSN of the last mtr before it.
+#[derive(Clone, Copy, Debug)]
+pub(crate) struct LogPlace {
+    pub node: u8,
+    pub gate: u64,
+    pub last: u64,
+}
 
 /// The byte of an open gate. Any other byte is a closed one.
 pub(crate) const OPEN: u8 = 165;
@@ -176,7 +184,7 @@ pub(crate) fn check_batch(
     llsns: &mut Llsns,
 ) -> Result<u64, LogRefusal>
     requires { place + length bytes.now < 2 ^ 64 }
-    ensures exact { Checks (mtrs_at (length bytes.now) node last bytes.now place) bytes.now last llsns.old.items llsns.new.items result }
+    ensures { Checks (mtrs_at (length bytes.now) node last bytes.now place) bytes.now node last llsns.old.items llsns.new.items result }
 {
     let mut rest = bytes;
     let mut last = last;
@@ -199,4 +207,35 @@ pub(crate) fn check_batch(
     } else {
         Err(LogRefusal::Fault { place: start })
     }
+}
+
+/// The next batch of a log, behind the gate at a place: how many bytes it has, and the LLSN of its last mtr. None where
+/// the gate is closed. Its bytes go into the front of a slice of 65,536, and its LLSNs to the end of a list.
+pub(crate) fn next_batch<D: Disk>(
+    alloc: Global,
+    disk: &mut D,
+    size: u64,
+    place: LogPlace,
+    into: &mut [u8],
+    llsns: &mut Llsns,
+) -> Result<Option<(usize, u64)>, LogRefusal>
+    requires gate { place.gate < 2 ^ 63 + 2 ^ 62 }
+    requires size { size < 2 ^ 63 }
+    requires room { length into.old ≡ 65536 }
+    ensures tells { D.tells disk.new ≡ D.tells disk.old }
+    ensures quiet { Quiet (D.seen disk.old) (D.image disk.old) (D.seen disk.new) (D.image disk.new) }
+    ensures exact { IsTrue (D.tells disk.old) → size ≡ length (D.seen disk.old) → Nexts place.node place.last (D.seen disk.old) place.gate llsns.old.items llsns.new.items result }
+    ensures whole { length into.new ≡ 65536 }
+    ensures within { IfOk result (λ found. IfSome found (λ next. place.gate + (6 + next.0) ≤ size)) }
+    ensures known { D.known disk.new ≡ D.known disk.old }
+    ensures count { D.faults disk.old ≤ D.faults disk.new }
+    ensures cause { size ≤ D.known disk.old → HasCause (D.faults disk.old) (D.faults disk.new) result }
+{
+    let Some(count) = open_at(disk, size, place.gate)? else {
+        return Ok(None);
+    };
+    read_batch(disk, place.gate, count, into)?;
+    let bytes = into.split_at(count).0;
+    let end = check_batch(alloc, place.node, place.last, bytes, place.gate + 5, llsns)?;
+    Ok(Some((count, end)))
 }
