@@ -84,7 +84,7 @@ ended all bytes node last0 old fuel last place rest now so none = record {
 }
 
 -- what the rest is read as, where there is some
-step : (fuel node last place : ℕ) (rest : List ℕ) → 1 ≤ length rest → mtrs_at (suc fuel) node last rest place ≡
+pub step : (fuel node last place : ℕ) (rest : List ℕ) → 1 ≤ length rest → mtrs_at (suc fuel) node last rest place ≡
     and_then (from_place place (mtr_at rest)) (λ found.
     and_then (field place (found.0.node == node && nat_lt last found.0.llsn) found.0) (λ mtr.
     and_then (mtrs_at fuel node mtr.llsn (drop found.1 rest) (place + found.1)) (λ mtrs.

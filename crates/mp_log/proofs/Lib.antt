@@ -6,3 +6,5 @@ pub mod Emptied
 pub mod Counts
 pub mod Checked
 pub mod NextBatch
+pub mod Opened
+pub mod ReadAgain

@@ -1,13 +1,12 @@
 -- The next batch, from what was read of it.
-use Rattle.std.proofs.Common.{◌≡◌, ℕ, zero, suc, ◌+◌, ◌-◌, ◌<◌, ◌≤◌, ◌==◌, ◌&&◌, nat_le, nat_lt, cond, Bool, true, false, List, [], ◌∷◌, ◌++◌, length, get_or, take, drop, Option, Some, None, Ok, Err, refl, sym, ap, subst, ◌∙◌, arith}
+use Rattle.std.proofs.Common.{◌≡◌, ℕ, zero, suc, ◌+◌, ◌<◌, ◌≤◌, ◌==◌, ◌&&◌, nat_le, nat_lt, cond, Bool, true, false, List, [], ◌∷◌, ◌++◌, length, get_or, take, drop, Option, Some, None, Ok, Err, refl, sym, ap, ◌∙◌, arith}
 use Rattle.std.proofs.lemmas.Bool.{and_parts, leb-true, ltb-true, eqb-true}
 use Rattle.std.proofs.lemmas.List.{append_assoc, length-drop, length-take-le, take-append-drop, drop-drop}
 use Rattle.byteorder.specs.Endian.{little_bytes}
-use Rattle.mp_cells.specs.declared.records.Mtr.{Mtr}
 use Rattle.mp_redo.specs.Reading.{Read, and_then}
 use Rattle.mp_redo.proofs.Fields.{both_read, both_again, field_read}
-use Rattle.mp_log.specs.Logs.{open_gate, most_bytes, batch_bytes, batch_text}
-use Rattle.mp_log.specs.Reading.{gate_at, is_count, count_at, open_at, mtrs_at, batch_at, batch_behind, next_at, AreChecked, IsNext}
+use Rattle.mp_log.specs.Logs.{open_gate, most_bytes, batch_bytes}
+use Rattle.mp_log.specs.Reading.{gate_at, is_count, count_at, open_at, mtrs_at, batch_at, batch_behind, AreChecked, IsNext}
 use Rattle.mp_log.proofs.Forced.{some_pending}
 
 -- the byte at a place and those behind it
@@ -40,6 +39,7 @@ is_closed file gate h = let a = open_read file gate None h in by_test a.0 a.1 a.
     none_read : (r : Read ℕ) → and_then {B = Option ℕ} r (λ n. Ok (Some n)) ≡ Ok None → ⊥
     none_read (Ok n) h = cc
     none_read (Err place) h = cc
+
     by_test : (b : Bool) → gate_at file gate ≡ Ok b → cond b (and_then (count_at file gate) (λ n. Ok (Some n))) (Ok None) ≡ Ok None → (gate < length file) × ((get_or file gate 0 == open_gate) ≡ false)
     by_test true g h = absurd (none_read (count_at file gate) h)
     by_test false g h = gate_read file gate false g
@@ -57,19 +57,19 @@ next_is node last gate count end size file bytes old new same is_open head fits 
     let size_is : length bytes ≡ count = ap length is_bytes ∙ length-take-le count (drop (gate + 5) file) left in
     let count_is : count ≡ length (batch_bytes batch) = sym size_is ∙ ap length checked.spelled in
     let read : batch_at node last file gate count ≡ Ok batch =
-        ap (λ (n : ℕ). mtrs_at n node last (take count (drop (gate + 5) file)) (gate + 5)) (sym size_is) ∙ ap (λ (x : List ℕ). mtrs_at (length bytes) node last x (gate + 5)) (sym is_bytes) ∙ checked.is in
+    ap (λ (n : ℕ). mtrs_at n node last (take count (drop (gate + 5) file)) (gate + 5)) (sym size_is) ∙ ap (λ (x : List ℕ). mtrs_at (length bytes) node last x (gate + 5)) (sym is_bytes) ∙ checked.is in
     let opened = is_opened file gate count is_open in
     let four : gate + 1 + 4 ≡ gate + 5 = omega arith in
     let ends : gate + 5 + count ≡ gate + (5 + count) = omega arith in
     let more = drop (gate + (5 + count)) file in
     let behind : drop (gate + 5) file ≡ batch_bytes batch ++ more =
-        sym (take-append-drop count (drop (gate + 5) file)) ∙ ap (λ (x : List ℕ). x ++ drop count (drop (gate + 5) file)) (sym is_bytes ∙ checked.spelled)
-        ∙ ap (λ (x : List ℕ). batch_bytes batch ++ x) (drop-drop count (gate + 5) file ∙ ap (λ (n : ℕ). drop n file) ends) in
+    sym (take-append-drop count (drop (gate + 5) file)) ∙ ap (λ (x : List ℕ). x ++ drop count (drop (gate + 5) file)) (sym is_bytes ∙ checked.spelled)
+    ∙ ap (λ (x : List ℕ). batch_bytes batch ++ x) (drop-drop count (gate + 5) file ∙ ap (λ (n : ℕ). drop n file) ends) in
     let inner : drop (gate + 1) file ≡ little_bytes 4 count ++ (batch_bytes batch ++ more) =
-        sym (take-append-drop 4 (drop (gate + 1) file)) ∙ ap (λ (x : List ℕ). x ++ drop 4 (drop (gate + 1) file)) head
-        ∙ ap (λ (x : List ℕ). little_bytes 4 count ++ x) (drop-drop 4 (gate + 1) file ∙ ap (λ (n : ℕ). drop n file) four ∙ behind) in
+    sym (take-append-drop 4 (drop (gate + 1) file)) ∙ ap (λ (x : List ℕ). x ++ drop 4 (drop (gate + 1) file)) head
+    ∙ ap (λ (x : List ℕ). little_bytes 4 count ++ x) (drop-drop 4 (gate + 1) file ∙ ap (λ (n : ℕ). drop n file) four ∙ behind) in
     let whole : drop gate file ≡ open_gate ∷ (little_bytes 4 count ++ (batch_bytes batch ++ more)) =
-        drop_byte gate file opened.0 ∙ ap (λ (g : ℕ). g ∷ drop (gate + 1) file) opened.1 ∙ ap (λ (x : List ℕ). open_gate ∷ x) inner in
+    drop_byte gate file opened.0 ∙ ap (λ (g : ℕ). g ∷ drop (gate + 1) file) opened.1 ∙ ap (λ (x : List ℕ). open_gate ∷ x) inner in
     record {
       batch = batch;
       is = both_again (open_at file gate) (λ n. batch_behind node last file gate n) (Some count) (Ok (Some (batch, count))) is_open (both_again (batch_at node last file gate count) (λ mtrs. Ok (Some (mtrs, count))) batch (Ok (Some (batch, count))) read refl);

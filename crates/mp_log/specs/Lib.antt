@@ -1,3 +1,4 @@
 pub mod Logs
 pub mod Tails
 pub mod Reading
+pub mod Opening

@@ -6,11 +6,12 @@ mod batches;
 mod bodies;
 mod laws;
 mod log;
+mod opening;
 mod refusals;
 mod resetting;
 mod tails;
 
 pub use laws::law_log_text;
-pub use log::Log;
+pub use log::{Log, Unopened};
 pub use refusals::LogRefusal;
 pub use resetting::reset;

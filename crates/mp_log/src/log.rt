@@ -1,19 +1,28 @@
 //! The log.
 
-ghost use Rattle.std.specs.Prelude.{◌≡◌, ◌<◌, ◌≤◌, [], ◌∷◌, ◌++◌, List, ℕ, true, false, length, IsTrue, OnOk, OnErr, IsOk, IsErr};
-ghost use Rattle.mp_outside.specs.Disks.{Counts};
+ghost use Rattle.std.specs.Prelude.{◌≡◌, ◌≢◌, Some, IfOk, IfErr, ◌<◌, ◌≤◌, [], ◌∷◌, ◌++◌, List, ℕ, true, false, length, IsTrue, OnOk, OnErr, IsOk, IsErr};
+ghost use Rattle.mp_outside.specs.Faults.{Rose};
+ghost use Rattle.mp_outside.specs.Disks.{Counts, Quiet};
 ghost use Rattle.mp_gated.specs.Gates.{calls_after, Made};
 ghost use Rattle.mp_cells.specs.declared.records.Mtr.{Mtr};
 ghost use Rattle.mp_cells.specs.Mtrs.{IsMtr};
 ghost use Rattle.mp_redo.specs.Spelling.{mtr_bytes};
-ghost use Rattle.mp_log.specs.Logs.{with_batch, HoldsOnly, HoldsEither};
+ghost use Rattle.mp_log.specs.declared.refusals.LogRefusal.TheVariants.{Fault};
+ghost use Rattle.mp_log.specs.declared.refusals.LogRefusal.TheVariants as LogRefusal;
+ghost use Rattle.mp_log.specs.Reading.{first_fault};
+ghost use Rattle.mp_log.specs.Opening.{IsOpened, first_above};
+ghost use Rattle.mp_log.specs.Logs.{IsLog, IsText, with_batch, HoldsOnly, HoldsEither};
 ghost use Rattle.mp_log.specs.Tails.{room_of, Stands};
 
+use crate::batches::Llsns;
 use crate::bodies::Body;
+use crate::opening::{Opened, open_at_end};
+use crate::refusals::LogRefusal;
 use crate::tails::Tail;
 use mp_cells::Mtr;
 use mp_gated::write_gated;
 use mp_outside::{Disk, Failed};
+use std::alloc::Global;
 
 /// The log of a primary, open at its end. It owns its disk.
 #[derive(Debug, Drop)]
@@ -21,9 +30,61 @@ pub struct Log<D: Disk> {
     disk: D,
     tail: Tail,
     body: Body,
+    llsns: Llsns,
+}
+
+/// A disk whose log wasn't opened, and why.
+#[derive(Debug, Drop)]
+pub struct Unopened<D: Disk> {
+    pub refusal: LogRefusal,
+    pub disk: D,
 }
 
 impl<D: Disk> Log<D> {
+    /// Opens the log of a primary (1 to 8) on its disk, at its end. It takes its memory, syncs the disk, so that what it
+    /// reads is what a crash leaves, and reads all open batches. A refusal hands the disk back, which reads as before:
+    /// `Fault` exactly where the file is off the grammar of that primary's logs, at the place of the first fault; `Disk`
+    /// only where the disk's count of faults rose; `Memory`. `docs/formats.md` has the grammar and the places.
+    pub fn open(alloc: Global, disk: D, node: u8) -> Result<Log<D>, Unopened<D>>
+        // What is opened holds batches that the primary's log may hold, whose LLSNs are known, and nothing is appended.
+        ensures opened { IsTrue (D.tells disk) → IfOk result (λ log. IsOpened node log.tail log.llsns.items (D.seen log.disk) (D.image log.disk)) }
+        // The text of such batches isn't a fault.
+        ensures only { (batches : List (List Mtr)) (place : ℕ) → IsTrue (D.tells disk) → IsLog node batches → IsText batches (D.seen disk) → IfErr result (λ unopened. unopened.refusal ≢ Fault place) }
+        // Which fault it is.
+        ensures fault { (place : ℕ) → IsTrue (D.tells disk) → IfErr result (λ unopened. unopened.refusal ≡ Fault place → first_fault node (D.seen disk) ≡ Some place) }
+        ensures live { IfOk result (λ log. log.tail.live ≡ true) }
+        ensures node { IfOk result (λ log. log.tail.node ≡ node) }
+        ensures nothing { IfOk result (λ log. log.tail.bytes ≡ []) }
+        ensures tells { IfOk result (λ log. D.tells log.disk ≡ D.tells disk) }
+        ensures quiet { IfOk result (λ log. Quiet (D.seen disk) (D.image disk) (D.seen log.disk) (D.image log.disk)) }
+        ensures still_tells { IfErr result (λ unopened. D.tells unopened.disk ≡ D.tells disk) }
+        ensures still_quiet { IfErr result (λ unopened. Quiet (D.seen disk) (D.image disk) (D.seen unopened.disk) (D.image unopened.disk)) }
+        ensures cause { IfErr result (λ unopened. unopened.refusal ≡ LogRefusal.Disk → Rose (D.faults disk) (D.faults unopened.disk)) }
+    {
+        let mut disk = disk;
+        match open_at_end(alloc, &mut disk, node) {
+            Ok(Opened { tail, body, llsns }) => Ok(Log {
+                disk,
+                tail,
+                body,
+                llsns,
+            }),
+            Err(refusal) => Err(Unopened { refusal, disk }),
+        }
+    }
+
+    /// The least LLSN above this one that was read when the log was opened.
+    pub fn first_above(&self, llsn: u64) -> Option<u64>
+        ensures { result ≡ first_above llsn self.now.llsns.items }
+    {
+        for other in self.llsns.as_slice() {
+            if llsn < *other {
+                return Some(*other);
+            }
+        }
+        None
+    }
+
     /// Whether it takes mtrs: until a `force` is refused.
     pub fn is_open(&self) -> bool
         ensures { result ≡ self.now.tail.live }

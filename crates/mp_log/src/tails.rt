@@ -34,20 +34,29 @@ impl Model for Tail {
 }
 
 impl Tail {
-    /// Of a log whose closed gate is at this place (below 2^63), and whose last mtr has this LLSN. Nothing is appended.
-    pub fn new(alloc: Global, node: u8, place: u64, last: u64) -> Result<Tail, Memory>
-        requires { place < 2 ^ 63 }
-        ensures { IfOk result (λ tail. tail ≡ record { node = node; place = place; last = last; live = true; bytes = [] }) }
+    /// Of a log of a node without mtrs, whose closed gate is its first byte. Nothing is appended.
+    pub fn new(alloc: Global, node: u8) -> Result<Tail, Memory>
+        ensures { IfOk result (λ tail. tail ≡ record { node = node; place = 0; last = 0; live = true; bytes = [] }) }
     {
         let mut text = Text::new(alloc);
         text.reserve(65536)?;
         Ok(Tail {
             node,
-            place,
-            last,
+            place: 0,
+            last: 0,
             live: true,
             text,
         })
+    }
+
+    /// Moves it to a closed gate at a place (below 2^63), behind an mtr with this LLSN. Nothing is appended.
+    pub fn move_to(&mut self, place: u64, last: u64)
+        requires nothing { self.old.bytes ≡ [] }
+        requires place { place < 2 ^ 63 }
+        ensures { self.new ≡ record self.old { place = place; last = last } }
+    {
+        self.place = place;
+        self.last = last;
     }
 
     pub fn node(&self) -> u8

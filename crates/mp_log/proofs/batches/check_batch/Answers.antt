@@ -12,7 +12,7 @@ pub returns-then-not-is_next : goal.returns-then-not-is_next
 returns-then-not-is_next c =
     let left : length c.args.bytes.now - c.loop.counter ≡ suc (length c.args.bytes.now - (c.loop.counter + 1)) = omega (arith, c.loop-test.true) in
     refuses (mtrs_at (length c.args.bytes.now) c.args.node c.args.last c.args.bytes.now c.args.place) c.args.bytes.now c.args.node c.args.last c.args.llsns.now.items (length c.args.bytes.now - c.loop.counter) (length c.args.bytes.now - (c.loop.counter + 1)) c.loop.last c.loop.start c.loop.rest.now c.loop.llsns.items c.loop.invariant.so_far left (has_some c.in_ok-mtr.mtr c.loop.rest.now _ c.in_ok-mtr.ensures.spelled.1)
-          c.in_ok-mtr.mtr c.in_ok-mtr.count c.in_ok-mtr.ensures.exact (sym c.is_next.ensures ∙ c.if-not-is_next.true)
+    c.in_ok-mtr.mtr c.in_ok-mtr.count c.in_ok-mtr.ensures.exact (sym c.is_next.ensures ∙ c.if-not-is_next.true)
 
 pub loop-preserved : goal.loop-preserved
 loop-preserved c =
