@@ -15,3 +15,6 @@ pub use laws::law_log_text;
 pub use log::{Log, Unopened};
 pub use refusals::LogRefusal;
 pub use resetting::reset;
+
+#[cfg(test)]
+mod tests;

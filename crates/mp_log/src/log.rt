@@ -100,6 +100,20 @@ impl<D: Disk> Log<D> {
         self.tail.room()
     }
 
+    /// The LLSN of the last mtr that was read or appended; 0 where there is none. An mtr that is appended has one above it.
+    pub fn last(&self) -> u64
+        ensures { result ≡ self.now.tail.last }
+    {
+        self.tail.last()
+    }
+
+    /// The primary whose log it is.
+    pub fn node(&self) -> u8
+        ensures { result ≡ self.now.tail.node }
+    {
+        self.tail.node()
+    }
+
     /// Hands the disk back as it is, also where the log is closed. What was appended and not forced is given up.
     pub fn into_disk(self) -> D
         ensures { result ≡ self.disk }
