@@ -1,1 +1,3 @@
 pub mod ByPage
+pub mod Uses
+pub mod Heights

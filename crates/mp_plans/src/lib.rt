@@ -5,4 +5,4 @@
 
 mod laws;
 
-pub use laws::law_plan_by_page;
+pub use laws::{law_plan_by_page, law_three_levels};

@@ -1,13 +1,7 @@
-// A library with one function.
+//! The tree of pages: searches in it, and the plans of changes that write one row. Pages come from a `Pager`.
 #![tactic(auto)]
 
-ghost use Rattle.std.specs.Prelude.{◌≡◌};
-ghost use Rattle.mp_tree.specs.Echo.{echo_of};
+mod leaf;
+mod search;
 
-// The `ensures` clause is the contract: what `echo` returns is `echo_of` of its argument, a definition
-// in `specs/Echo.antt`, which a caller's clause can cite too.
-pub fn echo(x: usize) -> usize
-    ensures { result ≡ echo_of x }
-{
-    x
-}
+pub use search::LeafRows;

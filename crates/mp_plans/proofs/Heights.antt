@@ -1,0 +1,71 @@
+-- A tree has at most three levels: with four it would use more pages than there are.
+use Rattle.std.proofs.Common.{◌≡◌, ◌≢◌, ℕ, zero, suc, ◌+◌, ◌*◌, ◌<◌, ◌≤◌, ◌==◌, List, [], ◌∷◌, ◌++◌, length, map, refl, sym, ap, ◌∙◌, inl, inr, arith}
+use Rattle.std.specs.List.{AllByRecursion}
+use Rattle.std.proofs.lemmas.List.{length-append, length-map}
+use Rattle.std.proofs.lemmas.Nat.Bits.{bit_at-lt}
+use Rattle.mp_cells.specs.declared.kinds.Kind.TheVariants.{Inner, Undo}
+use Rattle.mp_cells.specs.declared.children.Child.{Child}
+use Rattle.mp_cells.specs.PageView.{IsPage, bit_of, is_of}
+use Rattle.mp_cells.specs.Trees.{PageMap, top, root, Fits, below, Levels, pages_under, tree_pages, one_if, uses, IsTree}
+use Rattle.mp_cells.proofs.TreeSearch.{InRange, below_in_range}
+use Rattle.mp_plans.proofs.Uses.{uses-append, uses-head, one_if-same, AllBelow, length_most}
+
+abbrev pub numbers : List Child → List ℕ
+numbers level = map (λ child. child.page) level
+
+-- no page of a tree is used twice
+pub used_once : (pages : PageMap) (height : ℕ) → IsTree pages height → (n : ℕ) → n < 4096 → uses n (tree_pages pages height) ≤ 1
+used_once pages height tree n lt = omega (arith, tree.bits n lt, bit_at-lt)
+
+pub root_range : InRange (root ∷ [])
+root_range = (omega arith, tt)
+
+-- a level, then those under it
+pub level_uses : (pages : PageMap) (height : ℕ) (level : List Child) (n : ℕ) → uses n (numbers level) ≤ uses n (pages_under pages height level)
+level_uses pages zero level n = omega arith
+level_uses pages (suc height) level n = omega (arith, uses-append n (numbers level) (pages_under pages height (below pages level)))
+
+numbers_below : (level : List Child) → InRange level → AllBelow 4096 (numbers level)
+numbers_below [] r = tt
+numbers_below (child ∷ level) r = (r.0, numbers_below level r.1)
+
+module _ (pages : PageMap) (height : ℕ) (tree : IsTree pages height) where
+  -- a level of inner pages other than the root has many children
+  many_below : (high : ℕ) (level : List Child) → InRange level → Fits pages Inner high level → uses 1 (numbers level) ≡ 0 → 62 * length level ≤ length (below pages level)
+  many_below high [] r f none = omega arith
+  many_below high (child ∷ level) r f none =
+      let parts = uses-head 1 child.page (numbers level) none in
+      let here : 62 ≤ length (pages child.page).children = tree.inner_fill child.page r.0 parts.0 f.0 in
+      let rest = many_below high level r.1 f.3 parts.1 in
+      omega (arith, length-append (pages child.page).children (below pages level))
+
+  -- a level four down
+  fourth : (level : List Child) → InRange level → 7688 ≤ length level → ((n : ℕ) → n < 4096 → uses n (numbers level) ≤ 1) → ⊥
+  fourth level r many once = omega (arith, length_most 4096 (numbers level) (numbers_below level r) once, length-map level (λ (child : Child). child.page))
+
+four_levels : (pages : PageMap) (h : ℕ) → IsTree pages (suc (suc (suc h))) → ⊥
+four_levels pages h tree =
+    let first = below pages (root ∷ []) in
+    let second = below pages first in
+    let third = below pages second in
+    let l0 = tree.levels in
+    let r1 : InRange first = below_in_range pages tree.sound top (root ∷ []) root_range l0.0 in
+    let r2 : InRange second = below_in_range pages tree.sound top first r1 l0.1.0 in
+    let r3 : InRange third = below_in_range pages tree.sound top second r2 l0.1.1.0 in
+    let split : (n : ℕ) → uses n (tree_pages pages (suc (suc (suc h)))) ≡ one_if (1 == n) + (uses n (numbers first) + (uses n (numbers second) + uses n (pages_under pages h third))) =
+        λ n. omega (arith, uses-append n (1 ∷ []) (pages_under pages (suc (suc h)) first), uses-append n (numbers first) (pages_under pages (suc h) second), uses-append n (numbers second) (pages_under pages h third)) in
+    let once = used_once pages (suc (suc (suc h))) tree in
+    let one = once 1 (omega arith) in
+    let none1 : uses 1 (numbers first) ≡ 0 = omega (arith, split 1, one) in
+    let none2 : uses 1 (numbers second) ≡ 0 = omega (arith, split 1, one) in
+    let kind : (pages 1).kind ≡ Inner = l0.0.0 in
+    let two : 2 ≤ length first = omega (arith, tree.root_fill kind, length-append (pages 1).children []) in
+    let more2 = many_below pages (suc (suc (suc h))) tree top first r1 l0.1.0 none1 in
+    let more3 = many_below pages (suc (suc (suc h))) tree top second r2 l0.1.1.0 none2 in
+    fourth pages (suc (suc (suc h))) tree third r3 (omega (arith, two, more2, more3)) (λ n lt. omega (arith, once n lt, split n, level_uses pages h third n))
+
+pub height_most : (pages : PageMap) (height : ℕ) → IsTree pages height → height ≤ 2
+height_most pages zero tree = omega arith
+height_most pages (suc zero) tree = omega arith
+height_most pages (suc (suc zero)) tree = omega arith
+height_most pages (suc (suc (suc h))) tree = absurd (four_levels pages h tree)
