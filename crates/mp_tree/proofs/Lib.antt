@@ -1,1 +1,3 @@
 pub mod PageFacts
+pub mod Descent
+pub mod Asking

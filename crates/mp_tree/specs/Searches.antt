@@ -1,14 +1,15 @@
 -- What a search looks at and answers.
-use Rattle.std.specs.Prelude.{◌≡◌, ◌≢◌, ℕ, ◌+◌, ◌-◌, ◌^◌, ◌<◌, ◌≤◌, ◌&&◌, nat_le, nat_lt, min, List, filter, Option, Some, Result, OnOk, IfErr}
+use Rattle.std.specs.Prelude.{◌≡◌, ◌≢◌, ℕ, ◌+◌, ◌-◌, ◌^◌, ◌<◌, ◌≤◌, ◌&&◌, nat_le, nat_lt, min, List, filter, Option, Some, None, Result, OnOk, IfErr, IfSome}
 use Rattle.mp_model.specs.declared.waiting.NotYet.{NotYet}
 use Rattle.mp_cells.specs.declared.kinds.Kind.TheVariants.{Leaf, Inner}
 use Rattle.mp_cells.specs.declared.rows.Row.{Row}
-use Rattle.mp_cells.specs.PageView.{PageView}
+use Rattle.mp_cells.specs.PageView.{PageView, IsPage}
 use Rattle.mp_cells.specs.Trees.{PageMap, top, root, tree_rows, leaf_at, child_at}
 use Rattle.mp_page.specs.Pagers.{Handed}
 use Rattle.mp_tree.specs.declared.search.Look.{Look}
 use Rattle.mp_tree.specs.declared.search.Look.TheVariants as looks
 use Rattle.mp_tree.specs.declared.search.LeafRows.{LeafRows}
+use Rattle.mp_tree.specs.declared.search.Stop.{Stop}
 
 -- what a search sees in one page
 abbrev pub Looks : ℕ → PageView → Look → Type 0
@@ -42,3 +43,17 @@ pub record Asks {P : Type 0} {A : Type 0} (handed : P → Handed) (waits : P →
   pub kept : (n : ℕ) (page : PageView) → handed old n ≡ Some page → handed new n ≡ Some page
   pub quiet : OnOk result ((waits new ≡ waits old) × (last new ≡ last old))
   pub waited : IfErr result (λ wait. (min (waits old + 1) (2 ^ 64 - 1) ≤ waits new) × (last new ≡ wait))
+
+-- a page that was found is a leaf, and was handed out
+pub record IsLeafAt (given : Handed) (stop : Stop) : Type 0 where
+  pub range : stop.number < 4096
+  pub handed : given stop.number ≡ Some stop.page
+  pub page : IsPage stop.page
+  pub kind : stop.page.kind ≡ Leaf
+
+abbrev pub IsLeafHanded : Handed → Option Stop → Type 0
+IsLeafHanded handed found = IfSome found (λ stop. IsLeafAt handed stop)
+
+-- the page found is the leaf of the tree that may hold the key
+abbrev pub IsLeafFor : PageMap → ℕ → ℕ → Option Stop → Type 0
+IsLeafFor pages height key found = found ≡ Some (record { number = (leaf_at pages height key root).page; page = leaf_for pages height key })

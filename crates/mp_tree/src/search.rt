@@ -4,7 +4,7 @@ ghost use Rattle.std.specs.Prelude.{◌≡◌, ℕ, ◌<◌, Some, IfOk};
 ghost use Rattle.mp_cells.specs.PageView.{IsPage};
 ghost use Rattle.mp_cells.specs.Trees.{PageMap, IsTree, tree_rows, row_at, leaf_at, root};
 ghost use Rattle.mp_page.specs.Pagers.{Extends};
-ghost use Rattle.mp_tree.specs.Searches.{Looks, Asks, AreLeafRows};
+ghost use Rattle.mp_tree.specs.Searches.{Looks, Asks, AreLeafRows, IsLeafHanded, IsLeafFor};
 
 use crate::leaf::{child_for, row_in, rows_in};
 use mp_model::NotYet;
@@ -38,4 +38,41 @@ pub(crate) fn look_at(page: &Page, key: u32) -> Look
         Kind::Inner => Look::Below(child_for(page, key).page),
         Kind::Blank | Kind::Meta | Kind::Undo => Look::Lost,
     }
+}
+
+/// A page that a search came to.
+#[derive(Clone, Copy, Debug)]
+pub(crate) struct Stop {
+    pub(crate) number: u16,
+    pub(crate) page: Page,
+}
+
+/// The leaf that may hold a key; none where the pages are no tree.
+pub(crate) fn leaf_for<P: Pager>(pager: &mut P, key: u32) -> Result<Option<Stop>, NotYet>
+    ensures asks { Asks P.handed P.waits P.last P.follows pager.old pager.new result }
+    ensures leaf { IfOk result (λ found. IsLeafHanded (P.handed pager.new) found) }
+    ensures found { IfOk result (λ found. (pages : PageMap) → Extends pages (P.handed pager.new) → (height : ℕ) → IsTree pages height → IsLeafFor pages height key found) }
+{
+    let mut number = 1;
+    for _level in 0..3u8 {
+        let page = match pager.page(number) {
+            Ok(page) => page,
+            Err(wait) => return Err(wait),
+        };
+        match look_at(page, key) {
+            Look::Leaf => return Ok(stop_at(number, page)),
+            Look::Below(child) => number = child,
+            Look::Lost => return Ok(None),
+        }
+    }
+    Ok(None)
+}
+
+fn stop_at(number: u16, page: &Page) -> Option<Stop>
+    ensures { result ≡ Some (record { number = number; page = page.now }) }
+{
+    Some(Stop {
+        number,
+        page: *page,
+    })
 }

@@ -1,0 +1,88 @@
+-- A search from the root: where it is after some levels, and where it ends.
+use Rattle.std.proofs.Common.{◌≡◌, ◌≢◌, ℕ, zero, suc, ◌+◌, ◌<◌, ◌≤◌, List, [], ◌∷◌, ◌++◌, length, refl, sym, ap, subst, ◌∙◌, inl, inr, ◌⊎◌, arith}
+use Rattle.std.specs.List.{AllByRecursion}
+use Rattle.mp_cells.specs.declared.kinds.Kind.TheVariants.{Leaf, Inner}
+use Rattle.mp_cells.specs.declared.children.Child.{Child}
+use Rattle.mp_cells.specs.PageView.{IsPage}
+use Rattle.mp_cells.specs.Trees.{PageMap, top, root, Fits, below, Levels, IsTree, child_at, leaf_at}
+use Rattle.mp_cells.proofs.TreeSearch.{InRange, below_in_range, IsAt, goes_down, fits_parts}
+use Rattle.mp_plans.proofs.Heights.{height_most, root_range}
+
+-- so many levels below the root, a search for a key is at this page
+pub record Reached (pages : PageMap) (height key depth number : ℕ) : Type 0 where
+  pub rest : ℕ
+  pub level : List Child
+  pub child : Child
+  pub height_is : height ≡ depth + rest
+  pub number_is : number ≡ child.page
+  pub range : InRange level
+  pub levels : Levels pages rest level
+  pub at : IsAt key top level child
+  pub leaf : leaf_at pages height key root ≡ leaf_at pages rest key child
+
+pub begins : (pages : PageMap) (height key : ℕ) → IsTree pages height → key < top → Reached pages height key 0 1
+begins pages height key tree lt = record {
+  rest = height;
+  level = root ∷ [];
+  child = root;
+  height_is = omega arith;
+  number_is = refl;
+  range = root_range;
+  levels = tree.levels;
+  at = record { before = []; behind = []; whole = refl; from = omega arith; until = lt };
+  leaf = refl;
+}
+
+-- the page is a leaf where the search ends, and else an inner page
+pub leaf_here : (pages : PageMap) (rest key : ℕ) (level : List Child) (child : Child) → Levels pages rest level → IsAt key top level child → (pages child.page).kind ≡ Leaf → rest ≡ 0
+leaf_here pages zero key level child levels at kind = refl
+leaf_here pages (suc rest) key level child levels at kind =
+    let f = fits_parts pages Inner top at.before child at.behind (subst (Fits pages Inner top) at.whole levels.0) in
+    let both : Leaf ≡ Inner = sym kind ∙ f.kind_is in
+    absurd cc
+
+pub inner_here : (pages : PageMap) (rest key : ℕ) (level : List Child) (child : Child) → Levels pages rest level → IsAt key top level child → (pages child.page).kind ≡ Inner → (less : ℕ) × (rest ≡ suc less)
+inner_here pages zero key level child levels at kind =
+    let f = fits_parts pages Leaf top at.before child at.behind (subst (Fits pages Leaf top) at.whole levels) in
+    let both : Leaf ≡ Inner = sym f.kind_is ∙ kind in
+    absurd cc
+inner_here pages (suc rest) key level child levels at kind = (rest, refl)
+
+one_of : (pages : PageMap) (rest key : ℕ) (level : List Child) (child : Child) → Levels pages rest level → IsAt key top level child → ((pages child.page).kind ≡ Leaf) ⊎ ((pages child.page).kind ≡ Inner)
+one_of pages zero key level child levels at = inl (fits_parts pages Leaf top at.before child at.behind (subst (Fits pages Leaf top) at.whole levels)).kind_is
+one_of pages (suc rest) key level child levels at = inr (fits_parts pages Inner top at.before child at.behind (subst (Fits pages Inner top) at.whole levels.0)).kind_is
+
+module _ (pages : PageMap) (height key : ℕ) (tree : IsTree pages height) where
+  -- one level down
+  pub goes_on : (depth number : ℕ) → Reached pages height key depth number → (pages number).kind ≡ Inner → Reached pages height key (depth + 1) (child_at key (pages number).children).page
+  goes_on depth number r kind =
+      let kind_is : (pages r.child.page).kind ≡ Inner = subst (λ (n : ℕ). (pages n).kind ≡ Inner) r.number_is kind in
+      let less = inner_here pages r.rest key r.level r.child r.levels r.at kind_is in
+      let levels : Levels pages (suc less.0) r.level = subst (λ (h : ℕ). Levels pages h r.level) less.1 r.levels in
+      record {
+        rest = less.0;
+        level = below pages r.level;
+        child = child_at key (pages r.child.page).children;
+        height_is = omega (arith, r.height_is, less.1);
+        number_is = ap (λ (n : ℕ). (child_at key (pages n).children).page) r.number_is;
+        range = below_in_range pages tree.sound top r.level r.range levels.0;
+        levels = levels.1;
+        at = goes_down pages tree.sound key top r.level r.child r.range levels.0 r.at;
+        leaf = r.leaf ∙ ap (λ (h : ℕ). leaf_at pages h key r.child) less.1;
+      }
+
+  -- the end
+  pub stops : (depth number : ℕ) → Reached pages height key depth number → (pages number).kind ≡ Leaf → number ≡ (leaf_at pages height key root).page
+  stops depth number r kind =
+      let kind_is : (pages r.child.page).kind ≡ Leaf = subst (λ (n : ℕ). (pages n).kind ≡ Leaf) r.number_is kind in
+      let none = leaf_here pages r.rest key r.level r.child r.levels r.at kind_is in
+      r.number_is ∙ sym (ap (λ (c : Child). c.page) (r.leaf ∙ ap (λ (h : ℕ). leaf_at pages h key r.child) none))
+
+  pub not_lost : (depth number : ℕ) → Reached pages height key depth number → (pages number).kind ≢ Leaf → (pages number).kind ≢ Inner → ⊥
+  not_lost depth number r leaf inner = elim (one_of pages r.rest key r.level r.child r.levels r.at) [
+    | inl kind ↦ leaf (subst (λ (n : ℕ). (pages n).kind ≡ Leaf) (sym r.number_is) kind)
+    | inr kind ↦ inner (subst (λ (n : ℕ). (pages n).kind ≡ Inner) (sym r.number_is) kind)
+  ]
+
+  pub not_deep : (number : ℕ) → Reached pages height key 3 number → ⊥
+  not_deep number r = omega (arith, height_most pages height tree, r.height_is)
