@@ -1,3 +1,5 @@
 pub mod ByPage
+pub mod Stretches
 pub mod Uses
 pub mod Heights
+pub mod Places

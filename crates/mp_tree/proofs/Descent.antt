@@ -1,11 +1,19 @@
 -- A search from the root: where it is after some levels, and where it ends.
-use Rattle.std.proofs.Common.{◌≡◌, ◌≢◌, ℕ, zero, suc, ◌+◌, ◌<◌, ◌≤◌, List, [], ◌∷◌, ◌++◌, length, refl, sym, ap, subst, ◌∙◌, inl, inr, ◌⊎◌, arith}
+use Rattle.std.proofs.Common.{◌≡◌, ◌≢◌, ℕ, zero, suc, ◌+◌, ◌<◌, ◌≤◌, ◌&&◌, nat_le, nat_lt, Bool, List, [], ◌∷◌, ◌++◌, length, filter, Option, Some, refl, sym, ap, subst, ◌∙◌, inl, inr, ◌⊎◌, arith}
 use Rattle.std.specs.List.{AllByRecursion}
+use Rattle.std.proofs.lemmas.Bool.Decides.{nat_tests}
+use Rattle.std.proofs.lemmas.List.{append-nil}
+use Rattle.std.proofs.lemmas.List.Elements.{filter-append}
+use Rattle.mp_cells.specs.declared.rows.Row.{Row}
+use Rattle.mp_cells.proofs.KeyOrder.{Rises}
+use Rattle.mp_plans.proofs.Places.{leaf_place, leaf_facts}
+use Rattle.mp_tree.specs.declared.search.Stop.{Stop}
+use Rattle.mp_tree.specs.Searches.{rows_above, leaf_for, AreLeafRows, IsLeafFor}
 use Rattle.mp_cells.specs.declared.kinds.Kind.TheVariants.{Leaf, Inner}
 use Rattle.mp_cells.specs.declared.children.Child.{Child}
 use Rattle.mp_cells.specs.PageView.{IsPage}
-use Rattle.mp_cells.specs.Trees.{PageMap, top, root, Fits, below, Levels, IsTree, child_at, leaf_at}
-use Rattle.mp_cells.proofs.TreeSearch.{InRange, below_in_range, IsAt, goes_down, fits_parts}
+use Rattle.mp_cells.specs.Trees.{PageMap, top, root, Fits, below, Levels, low_of, IsTree, rows_under, child_at, leaf_at}
+use Rattle.mp_cells.proofs.TreeSearch.{InRange, below_in_range, IsAt, goes_down, fits_parts, tree_found}
 use Rattle.mp_plans.proofs.Heights.{height_most, root_range}
 
 -- so many levels below the root, a search for a key is at this page
@@ -86,3 +94,44 @@ module _ (pages : PageMap) (height key : ℕ) (tree : IsTree pages height) where
 
   pub not_deep : (number : ℕ) → Reached pages height key 3 number → ⊥
   not_deep number r = omega (arith, height_most pages height tree, r.height_is)
+
+-- the page that was found
+pub found_page : (pages : PageMap) (height key : ℕ) (found : Option Stop) (stop : Stop) → found ≡ Some stop → IsLeafFor pages height key found → (stop.number ≡ (leaf_at pages height key root).page) × (stop.page ≡ leaf_for pages height key)
+found_page pages height key found stop is e =
+    let same : stop ≡ record { number = (leaf_at pages height key root).page; page = leaf_for pages height key } = cc in
+    (ap (λ (s : Stop). s.number) same, ap (λ (s : Stop). s.page) same)
+
+-- the rows of the leaf from a key on are all rows up to its high fence
+front_none : (k low mid high : ℕ) (rows : List Row) → Rises (λ row. row.key) low mid rows → mid ≤ k → filter (λ row. nat_le k row.key && nat_lt row.key high) rows ≡ []
+front_none k low mid high [] r le = refl
+front_none k low mid high (row ∷ rows) r le = grind (arith, nat_tests, r.1, front_none k (row.key + 1) mid high rows r.2 le)
+
+middle_all : (k low high : ℕ) (rows : List Row) → Rises (λ row. row.key) low high rows → filter (λ row. nat_le k row.key && nat_lt row.key high) rows ≡ rows_above k rows
+middle_all k low high [] r = refl
+middle_all k low high (row ∷ rows) r = grind (arith, nat_tests, r.1, middle_all k (row.key + 1) high rows r.2)
+
+back_none : (k low high end : ℕ) (rows : List Row) → Rises (λ row. row.key) low end rows → high ≤ low → filter (λ row. nat_le k row.key && nat_lt row.key high) rows ≡ []
+back_none k low high end [] r le = refl
+back_none k low high end (row ∷ rows) r le = grind (arith, nat_tests, r.0, back_none k (row.key + 1) high end rows r.2 (omega (arith, r.0)))
+
+pub are_leaf_rows : (pages : PageMap) (height low : ℕ) → IsTree pages height → low < top → AreLeafRows pages height low (record { rows = rows_above low (leaf_for pages height low).rows; next = (leaf_for pages height low).high })
+are_leaf_rows pages height low tree lt =
+    let number = (leaf_at pages height low root).page in
+    let found = tree_found pages height low tree lt in
+    let place = leaf_place pages height number tree found.range found.kind in
+    let facts = leaf_facts (pages number) (tree.sound number found.range) found.kind in
+    let between : Row → Bool = λ row. nat_le low row.key && nat_lt row.key (pages number).high in
+    let parts : filter between (rows_under pages place.before ++ ((pages number).rows ++ rows_under pages place.behind)) ≡ rows_above low (pages number).rows =
+        filter-append between (rows_under pages place.before) ((pages number).rows ++ rows_under pages place.behind)
+        ∙ ap (λ (xs : List Row). filter between (rows_under pages place.before) ++ xs) (filter-append between (pages number).rows (rows_under pages place.behind))
+        ∙ rw (front_none low (low_of place.before place.child.low) (pages number).low (pages number).high (rows_under pages place.before) place.front found.from,
+              middle_all low (pages number).low (pages number).high (pages number).rows facts.rises,
+              back_none low (low_of place.behind top) (pages number).high top (rows_under pages place.behind) place.back (omega (arith, place.next)),
+              append-nil (rows_above low (pages number).rows)) refl in
+    record {
+      rows = refl;
+      next = refl;
+      above = found.until;
+      most = facts.high_most;
+      all = sym parts ∙ ap (filter between) (sym place.rows);
+    }

@@ -4,4 +4,4 @@
 mod leaf;
 mod search;
 
-pub use search::LeafRows;
+pub use search::{find, rows_from, LeafRows};

@@ -40,6 +40,39 @@ pub(crate) fn look_at(page: &Page, key: u32) -> Look
     }
 }
 
+/// The row of a key in its leaf. Over pages that are no tree the answer means nothing. `NotYet` is the pager's answer,
+/// and comes only where the pager gave it; what was handed out stays.
+pub fn find<P: Pager>(pager: &mut P, key: u32) -> Result<Option<Row>, NotYet>
+    ensures asks { Asks P.handed P.waits P.last P.follows pager.old pager.new result }
+    ensures found { IfOk result (λ row. (pages : PageMap) → Extends pages (P.handed pager.new) → (height : ℕ) → IsTree pages height → row ≡ row_at key (tree_rows pages height)) }
+{
+    match leaf_for(pager, key) {
+        Ok(Some(leaf)) => Ok(row_in(&leaf.page, key)),
+        Ok(None) => Ok(None),
+        Err(wait) => Err(wait),
+    }
+}
+
+/// The rows at or above `low` in the leaf whose fences hold it, and that leaf's high fence: all rows of the tree between
+/// the two. A scan goes on from that fence, up to 2^32. Over pages that are no tree the answer means nothing. `NotYet` is
+/// the pager's answer, and comes only where the pager gave it; what was handed out stays.
+pub fn rows_from<P: Pager>(pager: &mut P, low: u32) -> Result<LeafRows, NotYet>
+    ensures asks { Asks P.handed P.waits P.last P.follows pager.old pager.new result }
+    ensures found { IfOk result (λ found. (pages : PageMap) → Extends pages (P.handed pager.new) → (height : ℕ) → IsTree pages height → AreLeafRows pages height low found) }
+{
+    match leaf_for(pager, low) {
+        Ok(Some(leaf)) => Ok(LeafRows {
+            rows: rows_in(&leaf.page, low),
+            next: leaf.page.high(),
+        }),
+        Ok(None) => Ok(LeafRows {
+            rows: RowCells::new(),
+            next: 1 << 32,
+        }),
+        Err(wait) => Err(wait),
+    }
+}
+
 /// A page that a search came to.
 #[derive(Clone, Copy, Debug)]
 pub(crate) struct Stop {

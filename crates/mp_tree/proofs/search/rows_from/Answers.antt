@@ -1,0 +1,14 @@
+-- The leaf's rows from the key on, and its fence.
+use Rattle.std.proofs.Common.{◌≡◌, ap, subst, sym, ◌∙◌, arith}
+use Rattle.mp_cells.specs.PageView.{PageView}
+use Rattle.mp_tree.specs.Searches.{rows_above, leaf_for, AreLeafRows}
+use Rattle.mp_tree.specs.declared.search.LeafRows.{LeafRows}
+use Rattle.mp_tree.proofs.Descent.{found_page, are_leaf_rows}
+use Rattle.mp_tree.proofs.search.rows_from.Goals as goal
+
+pub returns-in-Ok-Some-clause-found : goal.returns-in-Ok-Some-clause-found
+returns-in-Ok-Some-clause-found g c = λ pages e height tree.
+    let found = found_page pages height c.args.low c.in-Ok-Some.field-0 c.in-Ok-Some.leaf c.in-Ok-Some.field-0-is (c.in-Ok-Some.ensures.found pages e height tree) in
+    let rows : c.rows_in.result ≡ rows_above c.args.low (leaf_for pages height c.args.low).rows = c.rows_in.ensures ∙ ap (λ (p : PageView). rows_above c.args.low p.rows) found.1 in
+    let next : c.high.result ≡ (leaf_for pages height c.args.low).high = c.high.ensures ∙ ap (λ (p : PageView). p.high) found.1 in
+    rw (rows, next) (are_leaf_rows pages height c.args.low tree (omega arith))
