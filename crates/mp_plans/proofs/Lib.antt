@@ -2,4 +2,9 @@ pub mod ByPage
 pub mod Stretches
 pub mod Uses
 pub mod Heights
+pub mod Spare
+pub mod Bits
+pub mod Shapes
 pub mod Places
+pub mod Reshaping
+pub mod Steps

@@ -15,17 +15,8 @@ use Rattle.mp_cells.proofs.PageRanges.{LeafRanges, leaf_ranges, InnerRanges, inn
 use Rattle.mp_cells.proofs.TreeSearch.{InRange, below_in_range, fits_parts, FitsInParts, level_rises}
 use Rattle.mp_plans.proofs.Stretches.{row_at-below, row_at-above, row_at-append}
 use Rattle.mp_plans.proofs.Uses.{uses-append, uses-head, one_if-same, one_if-other, one_if-is}
+use Rattle.mp_plans.proofs.Spare.{TreeWith, leaf_once}
 use Rattle.mp_plans.proofs.Heights.{numbers, root_range}
-
--- what a page of a kind has
-pub content_of : (kind : Kind) (page : PageView) → IsPage page → page.kind ≡ kind → HasContent kind page
-content_of kind page h e = subst (λ (k : Kind). HasContent k page) e h.content
-
-pub leaf_facts : (page : PageView) → IsPage page → page.kind ≡ Leaf → LeafRanges page.low page.high page.rows
-leaf_facts page h e = leaf_ranges page.low page.high page.rows (content_of Leaf page h e).1
-
-pub inner_facts : (page : PageView) → IsPage page → page.kind ≡ Inner → InnerRanges page.low page.high page.children
-inner_facts page h e = inner_ranges page.low page.high page.children (content_of Inner page h e).1
 
 -- a page of another kind isn't in a level
 pub not_in_level : (pages : PageMap) (kind : Kind) (high n : ℕ) (level : List Child) → Fits pages kind high level → (pages n).kind ≢ kind → uses n (numbers level) ≡ 0
@@ -76,19 +67,6 @@ pub parts_uses : (n m : ℕ) (before : List Child) (child : Child) (behind : Lis
 parts_uses n m before child behind e =
     ap (uses n) (numbers-append before (child ∷ behind)) ∙ uses-append n (numbers before) (numbers (child ∷ behind)) ∙ ap (λ (k : ℕ). uses n (numbers before) + (one_if (k == n) + uses n (numbers behind))) e
 
--- all pages of a tree are in it once
-pub kind_apart : (pages : PageMap) (n m : ℕ) → (pages n).kind ≢ (pages m).kind → n ≢ m
-kind_apart pages n m other = λ (e : n ≡ m). other (ap (λ (k : ℕ). (pages k).kind) e)
-
-pub not_undo : (page : PageView) (kind : Kind) → page.kind ≡ kind → (kind_number kind == 4) ≡ false → one_if (is_of Undo page) ≡ 0
-not_undo page kind e test = ap (λ (k : Kind). one_if (kind_number k == 4)) e ∙ ap one_if test
-
-pub in_tree : (pages : PageMap) (height : ℕ) → IsTree pages height → (n : ℕ) → n < 4096 → (kind : Kind) → (pages n).kind ≡ kind → (kind_number kind == 4) ≡ false → kind ≢ Meta → kind ≢ Blank → uses n (tree_pages pages height) ≡ 1
-in_tree pages height tree n lt kind e undo meta blank =
-    let apart : n ≢ 0 = λ (z : n ≡ 0). meta (sym e ∙ ap (λ (k : ℕ). (pages k).kind) z ∙ tree.meta) in
-    let set : bit_of (pages 0).bits n ≢ 0 = λ (z : bit_of (pages 0).bits n ≡ 0). blank (sym e ∙ tree.blank n lt z) in
-    omega (arith, tree.bits n lt, bit_at-lt, one_if-other n 0 apart, not_undo (pages n) kind e undo, set)
-
 -- a leaf among the leaves of a tree
 pub record LeafPlace (pages : PageMap) (height n : ℕ) : Type 0 where
   pub before : List Child
@@ -109,12 +87,10 @@ in_parts : (before : List Child) (child : Child) (behind : List Child) → InRan
 in_parts [] child behind r = (tt, r.1)
 in_parts (b ∷ before) child behind r = let rest = in_parts before child behind r.1 in ((r.0, rest.0), rest.1)
 
-pub leaf_place : (pages : PageMap) (height n : ℕ) → IsTree pages height → n < 4096 → (pages n).kind ≡ Leaf → LeafPlace pages height n
-leaf_place pages height n tree lt kind =
+pub leaf_place : (spare : List ℕ) (pages : PageMap) (height n : ℕ) → TreeWith spare pages height → n < 4096 → (pages n).kind ≡ Leaf → LeafPlace pages height n
+leaf_place spare pages height n tree lt kind =
     let all = leaves pages height (root ∷ []) in
-    let meta : Leaf ≢ Meta = λ (e : Leaf ≡ Meta). absurd cc in
-    let blank : Leaf ≢ Blank = λ (e : Leaf ≡ Blank). absurd cc in
-    let once : uses n (numbers all) ≡ 1 = sym (leaf_uses pages height n (root ∷ []) tree.levels kind) ∙ in_tree pages height tree n lt Leaf kind refl meta blank in
+    let once : uses n (numbers all) ≡ 1 = sym (leaf_uses pages height n (root ∷ []) tree.levels kind) ∙ leaf_once spare pages height tree n lt kind in
     let at = in_level n all (omega (arith, once)) in
     let count : uses n (numbers (at.before ++ at.child ∷ at.behind)) ≡ 1 = ap (λ (xs : List Child). uses n (numbers xs)) (sym at.whole) ∙ once in
     let parts = parts_uses n n at.before at.child at.behind at.page_is in
@@ -137,9 +113,9 @@ leaf_place pages height n tree lt kind =
     }
 
 -- a key between the fences of a leaf has its row there
-pub row_in_leaf : (pages : PageMap) (height n key : ℕ) (tree : IsTree pages height) → n < 4096 → (pages n).kind ≡ Leaf → (pages n).low ≤ key → key < (pages n).high → row_at key (tree_rows pages height) ≡ row_at key (pages n).rows
-row_in_leaf pages height n key tree lt kind from until =
-    let p = leaf_place pages height n tree lt kind in
+pub row_in_leaf : (spare : List ℕ) (pages : PageMap) (height n key : ℕ) → TreeWith spare pages height → n < 4096 → (pages n).kind ≡ Leaf → (pages n).low ≤ key → key < (pages n).high → row_at key (tree_rows pages height) ≡ row_at key (pages n).rows
+row_in_leaf spare pages height n key tree lt kind from until =
+    let p = leaf_place spare pages height n tree lt kind in
     ap (row_at key) p.rows
     ∙ row_at-below key (low_of p.before p.child.low) (pages n).low (rows_under pages p.before) ((pages n).rows ++ rows_under pages p.behind) p.front from
     ∙ row_at-append key (pages n).rows (rows_under pages p.behind) (row_at-above key (low_of p.behind top) top (rows_under pages p.behind) p.back (omega (arith, until, p.next)))

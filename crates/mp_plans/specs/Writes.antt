@@ -58,12 +58,12 @@ pages_taken (step ∷ plan) = page_taken step.1 ++ pages_taken plan
     page_taken (PutChild child) = []
     page_taken (PutUndo row) = []
 
--- the undo record at a link
+-- an undo page's record at a place, and the undo record at a link
+abbrev pub record_in : PageView → ℕ → Option Row
+record_in page index = if is_of Undo page then slice_get page.rows index else None
+
 abbrev pub undo_at : PageMap → Link → Option Row
-undo_at pages link = record_of (pages link.page)
-  where
-    record_of : PageView → Option Row
-    record_of page = if is_of Undo page then slice_get page.rows link.index else None
+undo_at pages link = record_in (pages link.page) link.index
 
 -- two links name one place
 abbrev pub is_link : Link → Link → Bool

@@ -6,7 +6,8 @@ use Rattle.std.proofs.lemmas.List.{append-nil}
 use Rattle.std.proofs.lemmas.List.Elements.{filter-append}
 use Rattle.mp_cells.specs.declared.rows.Row.{Row}
 use Rattle.mp_cells.proofs.KeyOrder.{Rises}
-use Rattle.mp_plans.proofs.Places.{leaf_place, leaf_facts}
+use Rattle.mp_plans.proofs.Places.{leaf_place}
+use Rattle.mp_plans.proofs.Spare.{with_none, leaf_facts}
 use Rattle.mp_tree.specs.declared.search.Stop.{Stop}
 use Rattle.mp_tree.specs.Searches.{rows_above, leaf_for, AreLeafRows, IsLeafFor}
 use Rattle.mp_cells.specs.declared.kinds.Kind.TheVariants.{Leaf, Inner}
@@ -118,7 +119,7 @@ pub are_leaf_rows : (pages : PageMap) (height low : ℕ) → IsTree pages height
 are_leaf_rows pages height low tree lt =
     let number = (leaf_at pages height low root).page in
     let found = tree_found pages height low tree lt in
-    let place = leaf_place pages height number tree found.range found.kind in
+    let place = leaf_place [] pages height number (with_none pages height tree) found.range found.kind in
     let facts = leaf_facts (pages number) (tree.sound number found.range) found.kind in
     let between : Row → Bool = λ row. nat_le low row.key && nat_lt row.key (pages number).high in
     let parts : filter between (rows_under pages place.before ++ ((pages number).rows ++ rows_under pages place.behind)) ≡ rows_above low (pages number).rows =
