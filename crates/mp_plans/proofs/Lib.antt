@@ -8,3 +8,4 @@ pub mod Shapes
 pub mod Places
 pub mod Reshaping
 pub mod Steps
+pub mod Finish

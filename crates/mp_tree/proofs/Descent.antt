@@ -9,7 +9,8 @@ use Rattle.mp_cells.proofs.KeyOrder.{Rises}
 use Rattle.mp_plans.proofs.Places.{leaf_place}
 use Rattle.mp_plans.proofs.Spare.{with_none, leaf_facts}
 use Rattle.mp_tree.specs.declared.search.Stop.{Stop}
-use Rattle.mp_tree.specs.Searches.{rows_above, leaf_for, AreLeafRows, IsLeafFor}
+use Rattle.mp_tree.specs.Searches.{rows_above, leaf_for, AreLeafRows, IsLeafFor, IsLeafAt, IsLeafHanded}
+use Rattle.mp_page.specs.Pagers.{Handed}
 use Rattle.mp_cells.specs.declared.kinds.Kind.TheVariants.{Leaf, Inner}
 use Rattle.mp_cells.specs.declared.children.Child.{Child}
 use Rattle.mp_cells.specs.PageView.{IsPage}
@@ -136,3 +137,6 @@ are_leaf_rows pages height low tree lt =
       most = facts.high_most;
       all = sym parts ∙ ap (filter between) (sym place.rows);
     }
+
+pub handed_leaf : (handed : Handed) (found : Option Stop) (stop : Stop) → found ≡ Some stop → IsLeafHanded handed found → IsLeafAt handed stop
+handed_leaf handed found stop is h = subst (IsLeafHanded handed) is h

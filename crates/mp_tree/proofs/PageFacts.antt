@@ -6,6 +6,8 @@ use Rattle.std.proofs.lemmas.List.{drop_more, append_assoc, length-append}
 use Rattle.std.proofs.lemmas.Bool.{ltb-true, lt-ltb, le-leb}
 use Rattle.std.proofs.lemmas.Bool.Decides.{nat_tests}
 use Rattle.std.specs.List.{slice_get}
+use Rattle.std.specs.Prelude.{is_some, ◌||◌}
+use Rattle.mp_cells.specs.Keys.{holds}
 use Rattle.mp_cells.specs.declared.kinds.Kind.{Kind}
 use Rattle.mp_cells.specs.declared.kinds.Kind.TheVariants.{Leaf, Inner}
 use Rattle.mp_cells.specs.declared.rows.Row.{Row}
@@ -73,3 +75,12 @@ child_later key children i child next h le =
 pub child_first : (key : ℕ) (children : List Child) (first : Child) → slice_get children 0 ≡ Some first → child_from key first (drop 1 children) ≡ child_at key children
 child_first key [] first h = absurd cc
 child_first key (child ∷ children) first h = ap (λ (c : Child). child_from key c children) (let e : child ≡ first = cc in sym e)
+
+-- a key has a row where a row has the key
+pub held_row : (key : ℕ) (rows : List Row) → is_some (row_at key rows) ≡ holds (λ row. row.key) key rows
+held_row key [] = refl
+held_row key (row ∷ rows) = by_test (row.key == key) (held_row key rows)
+  where
+    by_test : (b : Bool) → is_some (row_at key rows) ≡ holds (λ r. r.key) key rows → is_some (cond b (Some row) (row_at key rows)) ≡ (b || holds (λ r. r.key) key rows)
+    by_test true e = refl
+    by_test false e = e

@@ -4,6 +4,7 @@ ghost use Rattle.std.specs.Prelude.{◌≡◌, ◌<◌, IsTrue};
 ghost use Rattle.mp_cells.specs.declared.kinds.Kind.TheVariants.{Leaf, Inner};
 ghost use Rattle.mp_cells.specs.Children.{IsChild};
 ghost use Rattle.mp_cells.specs.PageView.{IsPage};
+ghost use Rattle.mp_cells.specs.Changes.{holds_row};
 ghost use Rattle.mp_cells.specs.Trees.{row_at, child_at};
 ghost use Rattle.mp_tree.specs.Searches.{rows_above};
 
@@ -56,4 +57,13 @@ pub(crate) fn rows_in(page: &Page, low: u32) -> RowCells
         }
     }
     rows
+}
+
+/// Whether a leaf holds a key.
+pub(crate) fn holds_key(page: &Page, key: u32) -> bool
+    requires page { IsPage page.now }
+    requires kind { page.now.kind ≡ Leaf }
+    ensures { result ≡ holds_row key page.now }
+{
+    row_in(page, key).is_some()
 }

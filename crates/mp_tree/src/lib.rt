@@ -2,6 +2,10 @@
 #![tactic(auto)]
 
 mod leaf;
+mod plan;
+mod restore;
 mod search;
 
+pub use plan::Plan;
+pub use restore::plan_restore;
 pub use search::{find, rows_from, LeafRows};
