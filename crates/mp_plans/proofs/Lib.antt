@@ -9,3 +9,6 @@ pub mod Places
 pub mod Reshaping
 pub mod Steps
 pub mod Finish
+pub mod Halves
+
+pub mod SplitLevels
