@@ -12,3 +12,5 @@ pub mod Finish
 pub mod Halves
 
 pub mod SplitLevels
+pub mod SplitTrees
+pub mod RootSplits

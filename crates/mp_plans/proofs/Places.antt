@@ -83,7 +83,7 @@ pub record LeafPlace (pages : PageMap) (height n : ℕ) : Type 0 where
   pub back : Rises (λ row. row.key) (low_of behind top) top (rows_under pages behind)
   pub next : (pages n).high ≡ low_of behind top
 
-in_parts : (before : List Child) (child : Child) (behind : List Child) → InRange (before ++ child ∷ behind) → InRange before × InRange behind
+pub in_parts : (before : List Child) (child : Child) (behind : List Child) → InRange (before ++ child ∷ behind) → InRange before × InRange behind
 in_parts [] child behind r = (tt, r.1)
 in_parts (b ∷ before) child behind r = let rest = in_parts before child behind r.1 in ((r.0, rest.0), rest.1)
 
