@@ -14,3 +14,5 @@ pub mod Halves
 pub mod SplitLevels
 pub mod SplitTrees
 pub mod RootSplits
+pub mod Pieces
+pub mod SplitPieces
