@@ -16,3 +16,4 @@ pub mod SplitTrees
 pub mod RootSplits
 pub mod Pieces
 pub mod SplitPieces
+pub mod Parts
