@@ -17,3 +17,5 @@ pub mod RootSplits
 pub mod Pieces
 pub mod SplitPieces
 pub mod Parts
+pub mod Reorders
+pub mod Growths
