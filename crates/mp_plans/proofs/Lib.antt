@@ -19,3 +19,4 @@ pub mod SplitPieces
 pub mod Parts
 pub mod Reorders
 pub mod Growths
+pub mod DoubleSplits

@@ -54,3 +54,18 @@ reshapes_same spare spare' p q pages height height' e r =
       rows = ap (λ (m : PageMap). tree_rows m height') after ∙ r.rows;
       undo = λ link. ap (λ (m : PageMap). undo_at m link) after ∙ r.undo link;
     }
+
+-- two changes move over three of other pages
+pub move_two : (a1 a2 b1 b2 b3 c : ℕ × Change) → AllByRecursion (λ (step : ℕ × Change). a1.0 ≢ step.0) (b1 ∷ b2 ∷ b3 ∷ []) → AllByRecursion (λ (step : ℕ × Change). a2.0 ≢ step.0) (b1 ∷ b2 ∷ b3 ∷ []) → Same (a1 ∷ a2 ∷ b1 ∷ b2 ∷ b3 ∷ c ∷ []) (b1 ∷ b2 ∷ b3 ∷ a1 ∷ a2 ∷ c ∷ [])
+move_two a1 a2 b1 b2 b3 c apart1 apart2 =
+    same_then (a1 ∷ a2 ∷ b1 ∷ b2 ∷ b3 ∷ c ∷ []) (a1 ∷ b1 ∷ b2 ∷ b3 ∷ a2 ∷ c ∷ []) (b1 ∷ b2 ∷ b3 ∷ a1 ∷ a2 ∷ c ∷ [])
+    (same_more a1 (a2 ∷ b1 ∷ b2 ∷ b3 ∷ c ∷ []) (b1 ∷ b2 ∷ b3 ∷ a2 ∷ c ∷ []) (moves a2.0 a2.1 (b1 ∷ b2 ∷ b3 ∷ []) (c ∷ []) apart2))
+    (moves a1.0 a1.1 (b1 ∷ b2 ∷ b3 ∷ []) (a2 ∷ c ∷ []) apart1)
+
+-- and the last two change places
+pub swap_last : (a1 a2 b1 b2 c d : ℕ × Change) → c.0 ≢ d.0 → Same (a1 ∷ a2 ∷ b1 ∷ b2 ∷ c ∷ d ∷ []) (a1 ∷ a2 ∷ b1 ∷ b2 ∷ d ∷ c ∷ [])
+swap_last a1 a2 b1 b2 c d apart =
+    same_more a1 (a2 ∷ b1 ∷ b2 ∷ c ∷ d ∷ []) (a2 ∷ b1 ∷ b2 ∷ d ∷ c ∷ [])
+    (same_more a2 (b1 ∷ b2 ∷ c ∷ d ∷ []) (b1 ∷ b2 ∷ d ∷ c ∷ [])
+    (same_more b1 (b2 ∷ c ∷ d ∷ []) (b2 ∷ d ∷ c ∷ [])
+    (same_more b2 (c ∷ d ∷ []) (d ∷ c ∷ []) (moves c.0 c.1 (d ∷ []) [] (apart, tt)))))
