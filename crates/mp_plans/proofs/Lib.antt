@@ -20,3 +20,5 @@ pub mod Parts
 pub mod Reorders
 pub mod Growths
 pub mod DoubleSplits
+pub mod Taking
+pub mod WritePlans

@@ -1,8 +1,9 @@
 -- Plans that write one row, and plans that put one row back.
 use Rattle.std.specs.Prelude.{◌≡◌, ℕ, ◌+◌, ◌≤◌, ◌==◌, ◌&&◌, Bool, List, [], ◌∷◌, ◌++◌, length, slice_get, Option, Some, None, if◌then◌else◌}
+use Rattle.std.specs.List.{flat_map}
 use Rattle.mp_cells.specs.declared.kinds.Kind.TheVariants.{Blank, Meta, Leaf, Inner, Undo}
 use Rattle.mp_cells.specs.declared.changes.Change.{Change}
-use Rattle.mp_cells.specs.declared.changes.Change.TheVariants.{MakeLeaf, MakeInner, MakeUndo, PutRow, RestoreRow, Cut, PutChild, PutUndo, TakePage}
+use Rattle.mp_cells.specs.declared.changes.Change.TheVariants.{PutRow, RestoreRow, TakePage}
 use Rattle.mp_cells.specs.declared.rows.Link.{Link}
 use Rattle.mp_cells.specs.declared.rows.Row.{Row}
 use Rattle.mp_cells.specs.PageView.{PageView, is_of}
@@ -11,52 +12,28 @@ use Rattle.mp_cells.specs.Trees.{PageMap, IsTree, tree_rows, row_at}
 use Rattle.mp_plans.specs.Plans.{Plan, Meets, after_plan, Agrees}
 
 -- the rows that a plan puts
+abbrev pub row_put : Change → List Row
+row_put (PutRow row) = row ∷ []
+row_put _ = []
+
 abbrev pub rows_put : Plan → List Row
-rows_put [] = []
-rows_put (step ∷ plan) = row_put step.1 ++ rows_put plan
-  where
-    row_put : Change → List Row
-    row_put (PutRow row) = row ∷ []
-    row_put (MakeLeaf low high rows) = []
-    row_put (MakeInner low high children) = []
-    row_put MakeUndo = []
-    row_put (RestoreRow row) = []
-    row_put (Cut from) = []
-    row_put (PutChild child) = []
-    row_put (PutUndo row) = []
-    row_put (TakePage number) = []
+rows_put plan = flat_map (λ step. row_put step.1) plan
 
 -- the rows that a plan puts back
+abbrev pub row_restored : Change → List Row
+row_restored (RestoreRow row) = row ∷ []
+row_restored _ = []
+
 abbrev pub rows_restored : Plan → List Row
-rows_restored [] = []
-rows_restored (step ∷ plan) = row_restored step.1 ++ rows_restored plan
-  where
-    row_restored : Change → List Row
-    row_restored (RestoreRow row) = row ∷ []
-    row_restored (MakeLeaf low high rows) = []
-    row_restored (MakeInner low high children) = []
-    row_restored MakeUndo = []
-    row_restored (PutRow row) = []
-    row_restored (Cut from) = []
-    row_restored (PutChild child) = []
-    row_restored (PutUndo row) = []
-    row_restored (TakePage number) = []
+rows_restored plan = flat_map (λ step. row_restored step.1) plan
 
 -- the pages that a plan takes
+abbrev pub page_taken : Change → List ℕ
+page_taken (TakePage number) = number ∷ []
+page_taken _ = []
+
 abbrev pub pages_taken : Plan → List ℕ
-pages_taken [] = []
-pages_taken (step ∷ plan) = page_taken step.1 ++ pages_taken plan
-  where
-    page_taken : Change → List ℕ
-    page_taken (TakePage number) = number ∷ []
-    page_taken (MakeLeaf low high rows) = []
-    page_taken (MakeInner low high children) = []
-    page_taken MakeUndo = []
-    page_taken (PutRow row) = []
-    page_taken (RestoreRow row) = []
-    page_taken (Cut from) = []
-    page_taken (PutChild child) = []
-    page_taken (PutUndo row) = []
+pages_taken plan = flat_map (λ step. page_taken step.1) plan
 
 -- an undo page's record at a place, and the undo record at a link
 abbrev pub record_in : PageView → ℕ → Option Row
