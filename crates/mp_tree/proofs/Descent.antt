@@ -140,3 +140,15 @@ are_leaf_rows pages height low tree lt =
 
 pub handed_leaf : (handed : Handed) (found : Option Stop) (stop : Stop) → found ≡ Some stop → IsLeafHanded handed found → IsLeafAt handed stop
 handed_leaf handed found stop is h = subst (IsLeafHanded handed) is h
+
+-- the search, one level further
+pub leaf_at-more : (pages : PageMap) (depth key : ℕ) (child : Child) → leaf_at pages (suc depth) key child ≡ child_at key (pages (leaf_at pages depth key child).page).children
+leaf_at-more pages zero key child = refl
+leaf_at-more pages (suc depth) key child = leaf_at-more pages depth key (child_at key (pages child.page).children)
+
+-- a search that is at the leaf has come so far down
+pub at_leaf : (pages : PageMap) (height key : ℕ) (tree : IsTree pages (suc height)) (depth number : ℕ) → Reached pages (suc height) key (depth + 1) number → number ≡ (leaf_at pages (suc height) key root).page → key < top → depth ≡ height
+at_leaf pages height key tree depth number r is lt =
+    let kind : (pages r.child.page).kind ≡ Leaf = ap (λ (n : ℕ). (pages n).kind) (sym r.number_is ∙ is) ∙ (tree_found pages (suc height) key tree lt).kind in
+    let none = leaf_here pages r.rest key r.level r.child r.levels r.at kind in
+    omega (arith, r.height_is, none)

@@ -1,3 +1,4 @@
 pub mod PageFacts
 pub mod Descent
 pub mod Asking
+pub mod ClearPages

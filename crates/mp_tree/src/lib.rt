@@ -1,6 +1,8 @@
 //! The tree of pages: searches in it, and the plans of changes that write one row. Pages come from a `Pager`.
 #![tactic(auto)]
 
+mod clear;
+mod growth;
 mod leaf;
 mod plan;
 mod restore;

@@ -101,7 +101,7 @@ pub(crate) fn leaf_for<P: Pager>(pager: &mut P, key: u32) -> Result<Option<Stop>
     Ok(None)
 }
 
-fn stop_at(number: u16, page: &Page) -> Option<Stop>
+pub(crate) fn stop_at(number: u16, page: &Page) -> Option<Stop>
     ensures { result ≡ Some (record { number = number; page = page.now }) }
 {
     Some(Stop {

@@ -1,0 +1,66 @@
+-- What a write's plan is made of, and what it is.
+use Rattle.std.specs.Prelude.{◌≡◌, ◌≢◌, ℕ, zero, suc, ◌+◌, ◌-◌, ◌^◌, ◌<◌, ◌≤◌, ◌==◌, ◌&&◌, nat_le, nat_lt, min, Bool, true, false, List, [], ◌∷◌, ◌++◌, length, take, Option, Some, None, Result, Ok, Err, OnOk, IfOk, IfErr, IfSome, if◌then◌else◌}
+use Rattle.mp_model.specs.declared.waiting.NotYet.{NotYet}
+use Rattle.mp_cells.specs.declared.kinds.Kind.TheVariants.{Meta, Leaf, Inner, Undo}
+use Rattle.mp_cells.specs.declared.rows.Link.{Link}
+use Rattle.mp_cells.specs.declared.rows.Row.{Row}
+use Rattle.mp_cells.specs.PageView.{PageView, IsPage, bit_of}
+use Rattle.mp_cells.specs.Trees.{PageMap, root, IsTree, leaf_at, child_at}
+use Rattle.mp_page.specs.Pagers.{Handed}
+use Rattle.mp_plans.specs.Plans.{Plan}
+use Rattle.mp_plans.specs.Growth as grows
+use Rattle.mp_plans.specs.Growth.{growth_of, pages_needed, write_plan, new_pages}
+use Rattle.mp_plans.specs.Writes.{WellPut}
+use Rattle.mp_tree.specs.declared.search.Stop.{Stop}
+use Rattle.mp_tree.specs.declared.growth.Growth.{Growth}
+use Rattle.mp_tree.specs.declared.growth.Growth.TheVariants.{Stays, NewRoot, Leaf as UnderParent, Inner as WithParent, Higher}
+use Rattle.mp_tree.specs.Searches.{leaf_for}
+
+-- ---- the parent of a page
+
+-- a page that was found is an inner page under which a search for the key goes on to a child, and was handed out
+pub record IsParentAt (given : Handed) (key below : ℕ) (stop : Stop) : Type 0 where
+  pub range : stop.number < 4096
+  pub handed : given stop.number ≡ Some stop.page
+  pub page : IsPage stop.page
+  pub kind : stop.page.kind ≡ Inner
+  pub child : (child_at key stop.page.children).page ≡ below
+
+-- the page so many levels below the root on the way to a key
+abbrev pub stop_on : PageMap → ℕ → ℕ → Stop
+stop_on pages depth key = let number = (leaf_at pages depth key root).page in record { number = number; page = pages number }
+
+-- ---- how the tree grows
+
+abbrev pub shape_of : Growth → grows.Growth
+shape_of Stays = grows.stays
+shape_of NewRoot = grows.new_root
+shape_of (UnderParent parent) = grows.leaf parent
+shape_of (WithParent stop) = grows.inner stop.number
+shape_of (Higher page) = grows.higher
+
+-- the pages that are kept with it were handed out
+abbrev pub IsHanded : Handed → Growth → Type 0
+IsHanded given Stays = Unit {0}
+IsHanded given NewRoot = Unit {0}
+IsHanded given (UnderParent parent) = Unit {0}
+IsHanded given (WithParent stop) = given stop.number ≡ Some stop.page
+IsHanded given (Higher page) = given 1 ≡ Some page
+
+-- ---- pages that are clear
+
+-- among so many pages from one on, those whose bits are clear
+unfoldable pub clear_from : ℕ → ℕ → List ℕ → List ℕ
+clear_from zero from bits = []
+clear_from (suc count) from bits = if bit_of bits from == 0 then from ∷ clear_from count (from + 1) bits else clear_from count (from + 1) bits
+
+-- all of them, in order
+abbrev pub clear_pages : PageView → List ℕ
+clear_pages meta = clear_from 4096 0 meta.bits
+
+-- the lowest page from one on whose bit is clear, or 4,096
+pub record IsNextClear (from n : ℕ) (bits : List ℕ) : Type 0 where
+  pub least : from ≤ n
+  pub most : n ≤ 4096
+  pub clear : n < 4096 → bit_of bits n ≡ 0
+  pub between : clear_from (4096 - from) from bits ≡ clear_from (4096 - n) n bits
