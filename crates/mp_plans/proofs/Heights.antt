@@ -1,6 +1,7 @@
 -- A tree has at most three levels: with four it would use more pages than there are.
 use Rattle.std.proofs.Common.{◌≡◌, ◌≢◌, ℕ, zero, suc, ◌+◌, ◌*◌, ◌<◌, ◌≤◌, ◌==◌, List, [], ◌∷◌, ◌++◌, length, map, refl, sym, ap, ◌∙◌, inl, inr, arith}
 use Rattle.std.specs.List.{AllByRecursion}
+use Rattle.std.proofs.lemmas.Bool.{cases_lt}
 use Rattle.std.proofs.lemmas.List.{length-append, length-map}
 use Rattle.std.proofs.lemmas.Nat.Bits.{bit_at-lt}
 use Rattle.mp_cells.specs.declared.kinds.Kind.TheVariants.{Inner, Undo}
@@ -69,3 +70,22 @@ height_most pages zero tree = omega arith
 height_most pages (suc zero) tree = omega arith
 height_most pages (suc (suc zero)) tree = omega arith
 height_most pages (suc (suc (suc h))) tree = absurd (four_levels pages h tree)
+
+-- the root of a tree of three levels has a place for one more child
+pub root_has_room : (pages : PageMap) → IsTree pages 2 → length (pages 1).children < 124
+root_has_room pages tree = elim (cases_lt (length (pages 1).children) 124) [
+  | inl lt ↦ lt
+  | inr full ↦
+      let first = below pages (root ∷ []) in
+      let second = below pages first in
+      let l0 = tree.levels in
+      let r1 : InRange first = below_in_range pages tree.sound top (root ∷ []) root_range l0.0 in
+      let r2 : InRange second = below_in_range pages tree.sound top first r1 l0.1.0 in
+      let split : (n : ℕ) → uses n (tree_pages pages 2) ≡ one_if (1 == n) + (uses n (numbers first) + uses n (numbers second)) =
+          λ n. omega (arith, uses-append n (1 ∷ []) (pages_under pages 1 first), uses-append n (numbers first) (pages_under pages 0 second)) in
+      let once = used_once pages 2 tree in
+      let none1 : uses 1 (numbers first) ≡ 0 = omega (arith, split 1, once 1 (omega arith)) in
+      let count : length first ≡ length (pages 1).children = omega (arith, length-append (pages 1).children []) in
+      let more = many_below pages 2 tree top first r1 l0.1.0 none1 in
+      absurd (fourth pages 2 tree second r2 (omega (arith, full, count, more)) (λ n lt. omega (arith, once n lt, split n)))
+]

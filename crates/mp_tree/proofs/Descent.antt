@@ -152,3 +152,10 @@ at_leaf pages height key tree depth number r is lt =
     let kind : (pages r.child.page).kind ≡ Leaf = ap (λ (n : ℕ). (pages n).kind) (sym r.number_is ∙ is) ∙ (tree_found pages (suc height) key tree lt).kind in
     let none = leaf_here pages r.rest key r.level r.child r.levels r.at kind in
     omega (arith, r.height_is, none)
+
+-- above the leaf a search is at an inner page
+pub inner_on_path : (pages : PageMap) (height key depth number : ℕ) → Reached pages height key depth number → depth < height → (pages number).kind ≡ Inner
+inner_on_path pages height key depth number r lt = elim (one_of pages r.rest key r.level r.child r.levels r.at) [
+  | inl leaf ↦ absurd (omega (arith, lt, r.height_is, leaf_here pages r.rest key r.level r.child r.levels r.at leaf))
+  | inr inner ↦ ap (λ (n : ℕ). (pages n).kind) r.number_is ∙ inner
+]

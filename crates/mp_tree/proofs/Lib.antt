@@ -2,3 +2,4 @@ pub mod PageFacts
 pub mod Descent
 pub mod Asking
 pub mod ClearPages
+pub mod GrowthShapes

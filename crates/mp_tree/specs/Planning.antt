@@ -13,6 +13,7 @@ use Rattle.mp_plans.specs.Growth.{growth_of, pages_needed, write_plan, new_pages
 use Rattle.mp_plans.specs.Writes.{WellPut}
 use Rattle.mp_tree.specs.declared.search.Stop.{Stop}
 use Rattle.mp_tree.specs.declared.growth.Growth.{Growth}
+use Rattle.mp_tree.specs.declared.growth.Ground.{Ground}
 use Rattle.mp_tree.specs.declared.growth.Growth.TheVariants.{Stays, NewRoot, Leaf as UnderParent, Inner as WithParent, Higher}
 use Rattle.mp_tree.specs.Searches.{leaf_for}
 
@@ -39,13 +40,56 @@ shape_of (UnderParent parent) = grows.leaf parent
 shape_of (WithParent stop) = grows.inner stop.number
 shape_of (Higher page) = grows.higher
 
--- the pages that are kept with it were handed out
-abbrev pub IsHanded : Handed → Growth → Type 0
-IsHanded given Stays = Unit {0}
-IsHanded given NewRoot = Unit {0}
-IsHanded given (UnderParent parent) = Unit {0}
-IsHanded given (WithParent stop) = given stop.number ≡ Some stop.page
-IsHanded given (Higher page) = given 1 ≡ Some page
+-- a full leaf under this parent
+abbrev pub growth_under : Stop → Growth
+growth_under parent = if nat_lt (length parent.page.children) 124 then UnderParent parent.number else (if parent.number == 1 then Higher parent.page else WithParent parent)
+
+-- a map has the pages that are kept with it
+abbrev pub HasPages : PageMap → Growth → Type 0
+HasPages pages Stays = Unit {0}
+HasPages pages NewRoot = Unit {0}
+HasPages pages (UnderParent parent) = Unit {0}
+HasPages pages (WithParent stop) = pages stop.number ≡ stop.page
+HasPages pages (Higher page) = pages 1 ≡ page
+
+-- the pages to be split are full
+pub record IsFullInner (inner : PageView) : Type 0 where
+  pub page : IsPage inner
+  pub kind : inner.kind ≡ Inner
+  pub full : length inner.children ≡ 124
+
+abbrev pub CanSplit : PageView → Growth → Type 0
+CanSplit leaf Stays = Unit {0}
+CanSplit leaf NewRoot = length leaf.rows ≡ 15
+CanSplit leaf (UnderParent parent) = length leaf.rows ≡ 15
+CanSplit leaf (WithParent stop) = (length leaf.rows ≡ 15) × IsFullInner stop.page
+CanSplit leaf (Higher page) = (length leaf.rows ≡ 15) × IsFullInner page
+
+-- ---- the place of the undo record
+
+-- the current undo page, where there is one, is one
+abbrev pub HasUndo : PageMap → Option ℕ → Type 0
+HasUndo pages None = Unit {0}
+HasUndo pages (Some u) = (pages u).kind ≡ Undo
+
+-- the place in it, or none where a fresh one is needed
+abbrev pub undo_place : PageMap → Option ℕ → Option Link
+undo_place pages None = None
+undo_place pages (Some u) = if nat_lt (length (pages u).rows) 15 then Some (record { page = u; index = length (pages u).rows }) else None
+
+-- ---- what a write reads of the tree
+
+pub record IsGround (given : PageMap) (height key : ℕ) (undo_page : Option ℕ) (ground : Ground) : Type 0 where
+  pub leaf : ground.leaf ≡ stop_on given height key
+  pub growth : shape_of ground.growth ≡ growth_of given height key
+  pub place : ground.place ≡ undo_place given undo_page
+  pub pages : HasPages given ground.growth
+
+pub record IsSound (ground : Ground) : Type 0 where
+  pub range : ground.leaf.number < 4096
+  pub page : IsPage ground.leaf.page
+  pub kind : ground.leaf.page.kind ≡ Leaf
+  pub split : CanSplit ground.leaf.page ground.growth
 
 -- ---- pages that are clear
 

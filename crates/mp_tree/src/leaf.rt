@@ -6,6 +6,7 @@ ghost use Rattle.mp_cells.specs.Children.{IsChild};
 ghost use Rattle.mp_cells.specs.PageView.{IsPage};
 ghost use Rattle.mp_cells.specs.Changes.{holds_row};
 ghost use Rattle.mp_cells.specs.Trees.{row_at, child_at};
+ghost use Rattle.mp_plans.specs.Growth.{has_place};
 ghost use Rattle.mp_tree.specs.Searches.{rows_above};
 
 use mp_page::{Child, Page, Row, RowCells};
@@ -66,4 +67,13 @@ pub(crate) fn holds_key(page: &Page, key: u32) -> bool
     ensures { result ≡ holds_row key page.now }
 {
     row_in(page, key).is_some()
+}
+
+/// Whether a leaf has a place for a key's row: it holds the key, or has fewer than 15 rows.
+pub(crate) fn has_place(page: &Page, key: u32) -> bool
+    requires page { IsPage page.now }
+    requires kind { page.now.kind ≡ Leaf }
+    ensures { result ≡ has_place key page.now }
+{
+    holds_key(page, key) || page.count() < 15
 }
