@@ -12,11 +12,11 @@ pub clear_none : (from : ℕ) (bits : List ℕ) → clear_from 0 from bits ≡ [
 unfolding clear_from
 clear_none from bits = refl
 
-clear_more : (count from : ℕ) (bits : List ℕ) → bit_of bits from ≢ 0 → clear_from (suc count) from bits ≡ clear_from count (from + 1) bits
+pub clear_more : (count from : ℕ) (bits : List ℕ) → bit_of bits from ≢ 0 → clear_from (suc count) from bits ≡ clear_from count (from + 1) bits
 unfolding clear_from
 clear_more count from bits set = let test : (bit_of bits from == 0) ≡ false = grind (arith, nat_tests) in ap (λ (b : Bool). cond b (from ∷ clear_from count (from + 1) bits) (clear_from count (from + 1) bits)) test
 
-clear_first : (count from : ℕ) (bits : List ℕ) → bit_of bits from ≡ 0 → clear_from (suc count) from bits ≡ from ∷ clear_from count (from + 1) bits
+pub clear_first : (count from : ℕ) (bits : List ℕ) → bit_of bits from ≡ 0 → clear_from (suc count) from bits ≡ from ∷ clear_from count (from + 1) bits
 unfolding clear_from
 clear_first count from bits clear = ap (λ (b : Bool). cond b (from ∷ clear_from count (from + 1) bits) (clear_from count (from + 1) bits)) (eq-eqb (bit_of bits from) 0 clear)
 

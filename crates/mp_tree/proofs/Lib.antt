@@ -3,3 +3,4 @@ pub mod Descent
 pub mod Asking
 pub mod ClearPages
 pub mod GrowthShapes
+pub mod NewPages

@@ -4,10 +4,13 @@
 mod clear;
 mod growth;
 mod leaf;
+mod new_pages;
 mod plan;
 mod restore;
 mod search;
+mod write;
 
 pub use plan::Plan;
 pub use restore::plan_restore;
 pub use search::{find, rows_from, LeafRows};
+pub use write::{PlanKind, PlanRefusal, Write};
