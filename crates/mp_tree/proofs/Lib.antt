@@ -4,3 +4,4 @@ pub mod Asking
 pub mod ClearPages
 pub mod GrowthShapes
 pub mod NewPages
+pub mod PlanWrite

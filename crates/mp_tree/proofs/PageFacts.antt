@@ -1,8 +1,8 @@
 -- What is known of a page of a kind, and steps along its cells.
-use Rattle.std.proofs.Common.{◌≡◌, ℕ, ◌+◌, ◌<◌, ◌≤◌, nat_le, nat_lt, ◌==◌, ◌≢◌, Bool, true, false, cond, List, [], ◌∷◌, ◌++◌, length, drop, filter, Some, refl, sym, ap, subst, ◌∙◌, arith}
+use Rattle.std.proofs.Common.{◌≡◌, ℕ, ◌+◌, ◌-◌, ◌<◌, ◌≤◌, nat_le, nat_lt, ◌==◌, ◌≢◌, Bool, true, false, cond, List, [], ◌∷◌, ◌++◌, length, take, drop, get_or, filter, Some, refl, sym, ap, subst, ◌∙◌, arith}
 use mathlib.Core.Bool.{false≢true}
 use Rattle.std.proofs.lemmas.Option.{slice_get_within, get_or_from_slice_get}
-use Rattle.std.proofs.lemmas.List.{drop_more, append_assoc, length-append}
+use Rattle.std.proofs.lemmas.List.{drop_more, append_assoc, length-append, length-drop, get_or-drop, take_more, take_all}
 use Rattle.std.proofs.lemmas.Bool.{ltb-true, lt-ltb, le-leb}
 use Rattle.std.proofs.lemmas.Bool.Decides.{nat_tests}
 use Rattle.std.specs.List.{slice_get}
@@ -15,6 +15,7 @@ use Rattle.mp_cells.specs.declared.children.Child.{Child}
 use Rattle.mp_cells.specs.PageView.{PageView, IsPage, HasContent, count_of, begins_at}
 use Rattle.mp_cells.specs.Trees.{row_at, child_from, child_at}
 use Rattle.mp_cells.proofs.PageRanges.{LeafRanges, leaf_ranges, InnerRanges, inner_ranges}
+use Rattle.mp_plans.specs.Growth.{first_key}
 use Rattle.mp_tree.specs.Searches.{rows_above}
 
 pub content_of : (kind : Kind) (page : PageView) → IsPage page → page.kind ≡ kind → HasContent kind page
@@ -84,3 +85,20 @@ held_row key (row ∷ rows) = by_test (row.key == key) (held_row key rows)
     by_test : (b : Bool) → is_some (row_at key rows) ≡ holds (λ r. r.key) key rows → is_some (cond b (Some row) (row_at key rows)) ≡ (b || holds (λ r. r.key) key rows)
     by_test true e = refl
     by_test false e = e
+
+-- the first key behind a place, and the cells from one place to another
+pub first_at : {T : Type 0} (key : T → ℕ) (cells : List T) (i : ℕ) (cell : T) → slice_get cells i ≡ Some cell → key cell ≡ first_key key (drop i cells)
+first_at key cells i cell h = sym (ap (first_key key) (next_cell cells i cell h))
+
+pub taken_next : {T : Type 0} (cells : List T) (from i : ℕ) (cell : T) → from ≤ i → slice_get cells i ≡ Some cell → take (i - from) (drop from cells) ++ cell ∷ [] ≡ take (i + 1 - from) (drop from cells)
+taken_next {T} cells from i cell le h =
+    let within = slice_get_within cells i cell h in
+    let at : from + (i - from) ≡ i = omega arith in
+    let more : i + 1 - from ≡ i - from + 1 = omega arith in
+    let here : get_or (drop from cells) (i - from) cell ≡ cell = get_or-drop from cells (i - from) cell ∙ ap (λ (n : ℕ). get_or cells n cell) at ∙ get_or_from_slice_get cells i cell cell h in
+    ap (λ (x : T). take (i - from) (drop from cells) ++ x ∷ []) (sym here)
+    ∙ sym (take_more (drop from cells) (i - from) cell (omega (arith, length-drop from cells)))
+    ∙ ap (λ (n : ℕ). take n (drop from cells)) (sym more)
+
+pub taken_rest : {T : Type 0} (cells : List T) (from n : ℕ) → length cells ≡ n → take (n - from) (drop from cells) ≡ drop from cells
+taken_rest cells from n e = take_all (n - from) (drop from cells) (omega (arith, length-drop from cells, e))

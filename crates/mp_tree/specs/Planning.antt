@@ -13,7 +13,7 @@ use Rattle.mp_plans.specs.Growth.{growth_of, pages_needed, write_plan, new_pages
 use Rattle.mp_plans.specs.Writes.{WellPut}
 use Rattle.mp_tree.specs.declared.search.Stop.{Stop}
 use Rattle.mp_tree.specs.declared.growth.Growth.{Growth}
-use Rattle.mp_tree.specs.declared.growth.Ground.{Ground}
+use Rattle.mp_tree.specs.declared.growth.Reading.{Reading}
 use Rattle.mp_tree.specs.declared.growth.Growth.TheVariants.{Stays, NewRoot, Leaf as UnderParent, Inner as WithParent, Higher}
 use Rattle.mp_tree.specs.Searches.{leaf_for}
 
@@ -79,17 +79,17 @@ undo_place pages (Some u) = if nat_lt (length (pages u).rows) 15 then Some (reco
 
 -- ---- what a write reads of the tree
 
-pub record IsGround (given : PageMap) (height key : ℕ) (undo_page : Option ℕ) (ground : Ground) : Type 0 where
-  pub leaf : ground.leaf ≡ stop_on given height key
-  pub growth : shape_of ground.growth ≡ growth_of given height key
-  pub place : ground.place ≡ undo_place given undo_page
-  pub pages : HasPages given ground.growth
+pub record IsReading (given : PageMap) (height key : ℕ) (undo_page : Option ℕ) (reading : Reading) : Type 0 where
+  pub leaf : reading.leaf ≡ stop_on given height key
+  pub growth : shape_of reading.growth ≡ growth_of given height key
+  pub place : reading.place ≡ undo_place given undo_page
+  pub pages : HasPages given reading.growth
 
-pub record IsSound (ground : Ground) : Type 0 where
-  pub range : ground.leaf.number < 4096
-  pub page : IsPage ground.leaf.page
-  pub kind : ground.leaf.page.kind ≡ Leaf
-  pub split : CanSplit ground.leaf.page ground.growth
+pub record IsSound (reading : Reading) : Type 0 where
+  pub range : reading.leaf.number < 4096
+  pub page : IsPage reading.leaf.page
+  pub kind : reading.leaf.page.kind ≡ Leaf
+  pub split : CanSplit reading.leaf.page reading.growth
 
 -- ---- pages that are clear
 

@@ -7,7 +7,7 @@ ghost use Rattle.mp_cells.specs.Trees.{PageMap, IsTree, leaf_at, root};
 ghost use Rattle.mp_page.specs.Pagers.{Extends};
 ghost use Rattle.mp_plans.specs.Growth.{growth_of};
 ghost use Rattle.mp_tree.specs.Searches.{Asks, IsLeafAt};
-ghost use Rattle.mp_tree.specs.Planning.{IsParentAt, stop_on, shape_of, growth_under, HasPages, CanSplit, HasUndo, undo_place, IsGround, IsSound};
+ghost use Rattle.mp_tree.specs.Planning.{IsParentAt, stop_on, shape_of, growth_under, HasPages, CanSplit, HasUndo, undo_place, IsReading, IsSound};
 
 use crate::leaf::has_place;
 use crate::search::{leaf_for, look_at, stop_at, Look, Stop};
@@ -32,22 +32,22 @@ pub(crate) enum Growth {
 /// What a write reads of the tree: the key's leaf, how the tree grows, and the place in the current undo page; no place
 /// where a fresh one is needed.
 #[derive(Clone, Copy, Debug)]
-pub(crate) struct Ground {
+pub(crate) struct Reading {
     pub(crate) leaf: Stop,
     pub(crate) growth: Growth,
     pub(crate) place: Option<Link>,
 }
 
 /// Reads what a write of a key needs; none where the pages are no tree.
-pub(crate) fn ground_for<P: Pager>(
+pub(crate) fn reading_for<P: Pager>(
     pager: &mut P,
     key: u32,
     undo_page: Option<u16>,
-) -> Result<Option<Ground>, NotYet>
+) -> Result<Option<Reading>, NotYet>
     requires { IfSome undo_page (λ u. u < 4096) }
     ensures asks { Asks P.handed P.waits P.last P.follows pager.old pager.new result }
     ensures sound { IfOk result (λ found. IfSome found IsSound) }
-    ensures ground { IfOk result (λ found. (pages : PageMap) → Extends pages (P.handed pager.new) → HasUndo pages undo_page → (height : ℕ) → IsTree pages height → IsSome found × IfSome found (IsGround pages height key undo_page)) }
+    ensures reading { IfOk result (λ found. (pages : PageMap) → Extends pages (P.handed pager.new) → HasUndo pages undo_page → (height : ℕ) → IsTree pages height → IsSome found × IfSome found (IsReading pages height key undo_page)) }
 {
     let leaf = match leaf_for(pager, key) {
         Ok(Some(leaf)) => leaf,
@@ -60,7 +60,7 @@ pub(crate) fn ground_for<P: Pager>(
         Err(wait) => return Err(wait),
     };
     match place_in(pager, undo_page) {
-        Ok(place) => Ok(Some(Ground {
+        Ok(place) => Ok(Some(Reading {
             leaf,
             growth,
             place,

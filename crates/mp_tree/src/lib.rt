@@ -1,8 +1,10 @@
 //! The tree of pages: searches in it, and the plans of changes that write one row. Pages come from a `Pager`.
 #![tactic(auto)]
 
+mod changes;
 mod clear;
 mod growth;
+mod halves;
 mod leaf;
 mod new_pages;
 mod plan;
@@ -13,4 +15,4 @@ mod write;
 pub use plan::Plan;
 pub use restore::plan_restore;
 pub use search::{find, rows_from, LeafRows};
-pub use write::{PlanKind, PlanRefusal, Write};
+pub use write::{plan_write, PlanKind, PlanRefusal, Write};

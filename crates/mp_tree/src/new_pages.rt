@@ -10,7 +10,7 @@ ghost use Rattle.mp_tree.specs.Planning.{shape_of, clear_pages};
 ghost use Rattle.mp_tree.specs.Writing.{AsksPlan, IsFront, IsNew, HasNew, IsFullFor, IsFullAnswer, needed_for};
 
 use crate::clear::{count_clear, next_clear};
-use crate::growth::{Ground, Growth};
+use crate::growth::{Reading, Growth};
 use crate::write::PlanRefusal;
 use mp_page::{Kind, Page, Pager};
 
@@ -36,13 +36,13 @@ impl New {
 
 /// The pages that a write takes. `Full` comes exactly where more are needed than are clear; none where page 0 isn't the
 /// meta page.
-pub(crate) fn pages_for<P: Pager>(pager: &mut P, ground: &Ground) -> Result<Option<New>, PlanRefusal>
+pub(crate) fn pages_for<P: Pager>(pager: &mut P, reading: &Reading) -> Result<Option<New>, PlanRefusal>
     ensures asks { AsksPlan P.handed P.waits P.last P.follows pager.old pager.new result }
-    ensures new { IfOk result (λ found. (pages : PageMap) → Extends pages (P.handed pager.new) → (pages 0).kind ≡ Meta → IsSome found × IfSome found (HasNew pages (is_none ground.now.place) (shape_of ground.now.growth))) }
-    ensures full { IfErr result (λ refusal. (pages : PageMap) → Extends pages (P.handed pager.new) → IsFullFor pages (needed_for (is_none ground.now.place) (shape_of ground.now.growth)) refusal) }
+    ensures new { IfOk result (λ found. (pages : PageMap) → Extends pages (P.handed pager.new) → (pages 0).kind ≡ Meta → IsSome found × IfSome found (HasNew pages (is_none reading.now.place) (shape_of reading.now.growth))) }
+    ensures full { IfErr result (λ refusal. (pages : PageMap) → Extends pages (P.handed pager.new) → IsFullFor pages (needed_for (is_none reading.now.place) (shape_of reading.now.growth)) refusal) }
 {
-    let fresh = is_fresh(ground);
-    let needed = needed(&ground.growth, fresh);
+    let fresh = is_fresh(reading);
+    let needed = needed(&reading.growth, fresh);
     if needed == 0 {
         return Ok(Some(New::NONE));
     }
@@ -53,10 +53,10 @@ pub(crate) fn pages_for<P: Pager>(pager: &mut P, ground: &Ground) -> Result<Opti
 }
 
 /// Whether a fresh undo page is needed.
-pub(crate) fn is_fresh(ground: &Ground) -> bool
-    ensures { result ≡ is_none ground.now.place }
+pub(crate) fn is_fresh(reading: &Reading) -> bool
+    ensures { result ≡ is_none reading.now.place }
 {
-    match ground.place {
+    match reading.place {
         None => true,
         Some(_) => false,
     }

@@ -1,6 +1,19 @@
 //! The plan of a write.
 
+ghost use Rattle.std.specs.Prelude.{◌≡◌, ℕ, ◌<◌, ◌≤◌, [], is_none, IsTrue, IfOk, IfErr, IfSome, OnErr};
+ghost use Rattle.mp_cells.specs.Rows.{is_writer};
+ghost use Rattle.mp_cells.specs.Trees.{PageMap, IsTree};
+ghost use Rattle.mp_page.specs.Pagers.{Extends};
+ghost use Rattle.mp_plans.specs.Growth.{growth_of};
+ghost use Rattle.mp_tree.specs.Planning.{shape_of, HasUndo, undo_place};
+ghost use Rattle.mp_tree.specs.Writing.{AsksPlan, IsFullFor, IsWrite, kind_of, needed_for};
+
+use crate::changes::put_write;
+use crate::growth::{reading_for, Growth};
+use crate::new_pages::pages_for;
+use crate::plan::Plan;
 use mp_model::{NotYet, TrxId, Value};
+use mp_page::Pager;
 
 /// What a transaction writes: the key's new value, or none where the row is to be gone, and its id.
 #[derive(Clone, Copy, Debug)]
@@ -31,4 +44,52 @@ pub enum PlanRefusal {
     },
     /// The pager's answer.
     NotYet(NotYet),
+}
+
+/// The changes of a write: the new pages are taken, each the lowest that is clear; a fresh undo page is made where the
+/// current one (2 to 4,095), if there is one, has 15 records; full pages on the way are split; the former version becomes
+/// an undo record, and the key's row is the new one, whose link names that record. Where the pages are no tree, or the
+/// current undo page is none, the plan means nothing.
+///
+/// `Full` comes exactly where more pages are needed than are clear, and says both numbers. `NotYet` is the pager's answer.
+/// Either leaves the plan empty; what was handed out stays. It takes no memory.
+pub fn plan_write<P: Pager>(
+    pager: &mut P,
+    write: &Write,
+    undo_page: Option<u16>,
+    plan: &mut Plan,
+) -> Result<PlanKind, PlanRefusal>
+    requires writer { IsTrue (is_writer write.now.writer) }
+    requires undo { IfSome undo_page (λ u. (2 ≤ u) × (u < 4096)) }
+    ensures asks { AsksPlan P.handed P.waits P.last P.follows pager.old pager.new result }
+    ensures written { IfOk result (λ kind. (given : PageMap) → Extends given (P.handed pager.new) → HasUndo given undo_page → (height : ℕ) → IsTree given height → IsWrite given height write.now undo_page kind plan.new) }
+    ensures full { IfErr result (λ refusal. (given : PageMap) → Extends given (P.handed pager.new) → HasUndo given undo_page → (height : ℕ) → IsTree given height → IsFullFor given (needed_for (is_none (undo_place given undo_page)) (growth_of given height write.now.key)) refusal) }
+    ensures refused { OnErr result (plan.new ≡ []) }
+{
+    plan.clear();
+    let reading = match reading_for(pager, write.key, undo_page) {
+        Ok(Some(reading)) => reading,
+        Ok(None) => return Ok(PlanKind::InPlace),
+        Err(wait) => return Err(PlanRefusal::NotYet(wait)),
+    };
+    match pages_for(pager, &reading) {
+        Ok(Some(new)) => {
+            put_write(plan, &reading, &new, write);
+            Ok(kind_of(&reading.growth))
+        }
+        Ok(None) => Ok(PlanKind::InPlace),
+        Err(refusal) => Err(refusal),
+    }
+}
+
+fn kind_of(growth: &Growth) -> PlanKind
+    ensures { result ≡ kind_of (shape_of growth.now) }
+{
+    match growth {
+        Growth::Stays => PlanKind::InPlace,
+        Growth::Leaf(_) => PlanKind::Split,
+        Growth::Inner(_) => PlanKind::Split,
+        Growth::NewRoot => PlanKind::RootSplit,
+        Growth::Higher(_) => PlanKind::RootSplit,
+    }
 }

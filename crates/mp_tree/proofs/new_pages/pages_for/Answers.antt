@@ -22,6 +22,6 @@ over_maps handed meta fresh growth needs (Err refusal) h is f = tt
 pub returns-in-Ok-clause-new : goal.returns-in-Ok-clause-new
 returns-in-Ok-clause-new g c =
     let asked = asked_page g.P.Pager.handed g.P.Pager.waits g.P.Pager.last g.P.Pager.follows c.args.pager.now c.page.follows.lender-at-none 0 c.page.result c.in-Ok.meta c.page.follows.holds-at-none c.in-Ok.is in
-    let growth = shape_of c.args.ground.now.growth in
+    let growth = shape_of c.args.reading.now.growth in
     let all = over_maps (g.P.Pager.handed c.page.follows.lender-at-none) c.in-Ok.meta.now c.is_fresh-fresh.result growth c.needed-needed.result c.taken_from.result asked.1 c.needed-needed.ensures.value c.taken_from.ensures.new in
     subst (λ (fresh : Bool). IfOk c.taken_from.result (λ found. (pages : PageMap) → Extends pages (g.P.Pager.handed c.page.follows.lender-at-none) → (pages 0).kind ≡ Meta → IsSome found × IfSome found (HasNew pages fresh growth))) c.is_fresh-fresh.ensures all

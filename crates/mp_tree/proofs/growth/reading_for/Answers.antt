@@ -8,7 +8,7 @@ use Rattle.mp_tree.specs.declared.growth.Growth.{Growth}
 use Rattle.mp_tree.specs.Planning.{stop_on, shape_of, HasPages}
 use Rattle.mp_tree.proofs.Asking.{extends_before, asked_more, asked_all, asks_ok, asks_wait}
 use Rattle.mp_tree.proofs.GrowthShapes.{same_stop}
-use Rattle.mp_tree.proofs.growth.ground_for.Goals as goal
+use Rattle.mp_tree.proofs.growth.reading_for.Goals as goal
 
 pub returns-in-Ok-clause-asks : goal.returns-in-Ok-clause-asks
 returns-in-Ok-clause-asks g c =
@@ -26,8 +26,8 @@ returns-in-Err-place_in-clause-asks g c =
     asks_wait _ g.P.Pager.handed g.P.Pager.waits g.P.Pager.last g.P.Pager.follows g.P.Pager.follows_on c.args.pager.now c.growth_for.new.pager c.place_in.new.pager c.place_in.result c.in-Err-place_in.wait
     (asked_more g.P.Pager.handed g.P.Pager.waits g.P.Pager.last g.P.Pager.follows g.P.Pager.follows_on c.args.pager.now c.leaf_for.new.pager c.growth_for.new.pager a b) c.place_in.ensures.asks c.in-Err-place_in.is
 
-pub returns-in-Ok-clause-ground : goal.returns-in-Ok-clause-ground
-returns-in-Ok-clause-ground g c = λ pages e undo height tree.
+pub returns-in-Ok-clause-reading : goal.returns-in-Ok-clause-reading
+returns-in-Ok-clause-reading g c = λ pages e undo height tree.
     let b = asks_ok g.P.Pager.handed g.P.Pager.waits g.P.Pager.last g.P.Pager.follows c.leaf_for.new.pager c.growth_for.new.pager c.growth_for.result c.in-Ok-Some-growth_for.field-0 c.growth_for.ensures.asks c.in-Ok-Some-growth_for.is in
     let d = asks_ok g.P.Pager.handed g.P.Pager.waits g.P.Pager.last g.P.Pager.follows c.growth_for.new.pager c.place_in.new.pager c.place_in.result c.in-Ok.place c.place_in.ensures.asks c.in-Ok.is in
     let e2 : Extends pages (g.P.Pager.handed c.growth_for.new.pager) = extends_before g.P.Pager.handed c.growth_for.new.pager c.place_in.new.pager pages d.kept e in
