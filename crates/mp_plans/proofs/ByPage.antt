@@ -1,8 +1,7 @@
 -- A plan's effect on a page is the fold of that page's own changes.
-use Rattle.std.proofs.Common.{◌≡◌, ◌≢◌, ℕ, ◌==◌, Bool, true, false, cond, List, [], ◌∷◌, ◌++◌, refl, sym, ap, subst, ◌∙◌, inl, inr, arith}
-use Rattle.std.proofs.lemmas.Bool.{cases_eq, eqb-true, eq-eqb}
+use Rattle.std.proofs.Common.{◌≡◌, ◌≢◌, ℕ, ◌==◌, Bool, true, false, cond, [], ◌∷◌, refl, sym, ap, subst, ◌∙◌, inl, inr, arith}
+use Rattle.std.proofs.lemmas.Bool.{cases_eq, eq-eqb}
 use Rattle.std.proofs.lemmas.Bool.Decides.{nat_tests}
-use Rattle.mp_cells.specs.declared.changes.Change.{Change}
 use Rattle.mp_cells.specs.PageView.{PageView}
 use Rattle.mp_cells.specs.Trees.{PageMap}
 use Rattle.mp_plans.specs.Plans.{Plan, CanApply, changed, with_page, after_change, after_plan, Meets, of_page, after_changes, MeetsAll}
@@ -47,12 +46,14 @@ pub Meets-from_pages : (plan : Plan) (pages : PageMap) → ((n : ℕ) → MeetsA
 Meets-from_pages [] pages m = tt
 Meets-from_pages (step ∷ plan) pages m =
     let all : (n : ℕ) → (b : Bool) → (n == step.0) ≡ b → MeetsAll (cond b (step.1 ∷ of_page n plan) (of_page n plan)) (pages n) = λ n b e. subst (λ (c : Bool). MeetsAll (cond c (step.1 ∷ of_page n plan) (of_page n plan)) (pages n)) e (m n) in
-    let here = all step.0 true (eq-eqb step.0 step.0 refl) in
-    (here.0, Meets-from_pages plan (after_change step pages) (λ n. elim (cases_eq n step.0) [
-      | inl same ↦
-          let found = all n true (eq-eqb n step.0 same) in
-          subst (MeetsAll (of_page n plan)) (sym (ap (with_page pages step.0 (changed step.1 (pages step.0))) same ∙ with_page-here pages step.0 (changed step.1 (pages step.0)) ∙ ap (λ (k : ℕ). changed step.1 (pages k)) (sym same))) found.1
-      | inr other ↦
-          let test : (n == step.0) ≡ false = grind (arith, nat_tests) in
-          subst (MeetsAll (of_page n plan)) (sym (with_page-other pages step.0 (changed step.1 (pages step.0)) n other)) (all n false test)
-    ]))
+    let here = all step.0 true (eq-eqb step.0 step.0 refl) in (
+      here.0,
+      Meets-from_pages plan (after_change step pages) (λ n. elim (cases_eq n step.0) [
+        | inl same ↦
+            let found = all n true (eq-eqb n step.0 same) in
+            subst (MeetsAll (of_page n plan)) (sym (ap (with_page pages step.0 (changed step.1 (pages step.0))) same ∙ with_page-here pages step.0 (changed step.1 (pages step.0)) ∙ ap (λ (k : ℕ). changed step.1 (pages k)) (sym same))) found.1
+        | inr other ↦
+            let test : (n == step.0) ≡ false = grind (arith, nat_tests) in
+            subst (MeetsAll (of_page n plan)) (sym (with_page-other pages step.0 (changed step.1 (pages step.0)) n other)) (all n false test)
+      ]),
+    )

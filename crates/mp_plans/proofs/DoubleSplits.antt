@@ -1,23 +1,22 @@
 -- A leaf is split and its parent too: the parent first, then the leaf under the part that takes it. The plan has them in
 -- another order, which is the same page by page.
-use Rattle.std.proofs.Common.{◌≡◌, ◌≢◌, ℕ, zero, suc, ◌+◌, ◌<◌, ◌≤◌, ◌==◌, Bool, true, false, cond, List, [], ◌∷◌, ◌++◌, length, take, drop, Some, refl, sym, ap, subst, ◌∙◌, inl, inr, arith}
+use Rattle.std.proofs.Common.{◌≡◌, ◌≢◌, ℕ, suc, ◌+◌, ◌<◌, ◌≤◌, ◌==◌, List, [], ◌∷◌, ◌++◌, length, take, drop, Some, sym, ap, subst, ◌∙◌, inr, arith}
 use Rattle.mp_cells.specs.declared.changes.Change.{Change}
-use Rattle.mp_cells.specs.declared.changes.Change.TheVariants.{MakeLeaf, MakeInner, Cut, PutChild}
-use Rattle.mp_cells.specs.declared.kinds.Kind.{Kind}
-use Rattle.mp_cells.specs.declared.kinds.Kind.TheVariants.{Blank, Meta, Leaf, Inner, Undo}
+use Rattle.mp_cells.specs.declared.changes.Change.TheVariants.{MakeLeaf, MakeInner, Cut}
+use Rattle.mp_cells.specs.declared.kinds.Kind.TheVariants.{Blank, Leaf, Inner, Undo}
 use Rattle.mp_cells.specs.declared.children.Child.{Child}
-use Rattle.mp_cells.specs.PageView.{PageView, IsPage}
+use Rattle.mp_cells.specs.PageView.{PageView}
 use Rattle.mp_cells.specs.Changes.{applied}
 use Rattle.mp_cells.specs.Trees.{PageMap, top, uses, one_if}
 use Rattle.mp_plans.specs.Plans.{Plan, after_plan}
 use Rattle.mp_plans.specs.Growth.{leaf_separator, inner_separator, leaf_parts, inner_parts, root_inner_parts, two_children, side, put_child, has_place}
-use Rattle.mp_plans.proofs.Uses.{one_if-same, one_if-other}
+use Rattle.mp_plans.proofs.Uses.{one_if-same}
 use Rattle.mp_plans.proofs.Heights.{numbers}
 use Rattle.mp_plans.proofs.Spare.{TreeWith, kind_apart}
 use Rattle.mp_plans.proofs.Reshaping.{Reshapes, reshapes_then, after_plan-append}
-use Rattle.mp_plans.proofs.SplitPieces.{SplitPiece, split_piece, PartsOf}
-use Rattle.mp_plans.proofs.Parts.{LeafParts, leaf_halves, InnerParts, inner_halves, inner_cut, inner_left, inner_right, RootPiece, root_piece, root_fences}
-use Rattle.mp_plans.proofs.Reorders.{Same, same_more, same_then, move_two, swap_last, same_after, reshapes_same}
+use Rattle.mp_plans.proofs.SplitPieces.{split_piece}
+use Rattle.mp_plans.proofs.Parts.{leaf_halves, inner_halves, inner_cut, inner_left, inner_right, root_piece, root_fences}
+use Rattle.mp_plans.proofs.Reorders.{Same, same_then, move_two, swap_last, same_after, reshapes_same}
 use Rattle.mp_plans.proofs.Growths.{Grown, IsLeafOf, leaf_grown, stays_under, child_not_root}
 
 -- a part before, and the same changes in another order
@@ -108,8 +107,8 @@ inner_grown spare mid height key m p a b tree range_m range_p range_a range_b a_
     let b1 : ℕ × Change = (b, make) in
     let b2 : ℕ × Change = (p, Cut sep_i) in
     let order : Same (a1 ∷ a2 ∷ b1 ∷ b2 ∷ ct ∷ c1 ∷ []) (b1 ∷ b2 ∷ c1 ∷ a1 ∷ a2 ∷ ct ∷ []) =
-        same_then (a1 ∷ a2 ∷ b1 ∷ b2 ∷ ct ∷ c1 ∷ []) (a1 ∷ a2 ∷ b1 ∷ b2 ∷ c1 ∷ ct ∷ []) (b1 ∷ b2 ∷ c1 ∷ a1 ∷ a2 ∷ ct ∷ [])
-        (swap_last a1 a2 b1 b2 ct c1 target.not_root) (move_two a1 a2 b1 b2 c1 ct (a_b, (a_p, (a_1, tt))) (m_b, (m_p, (m_1, tt)))) in
+    same_then (a1 ∷ a2 ∷ b1 ∷ b2 ∷ ct ∷ c1 ∷ []) (a1 ∷ a2 ∷ b1 ∷ b2 ∷ c1 ∷ ct ∷ []) (b1 ∷ b2 ∷ c1 ∷ a1 ∷ a2 ∷ ct ∷ [])
+    (swap_last a1 a2 b1 b2 ct c1 target.not_root) (move_two a1 a2 b1 b2 c1 ct (a_b, (a_p, (a_1, tt))) (m_b, (m_p, (m_1, tt)))) in
     grown_same spare (a1 ∷ a2 ∷ b1 ∷ b2 ∷ ct ∷ c1 ∷ []) (first ++ second) mid height key (side key sep_l m a) order both
 
 pub higher_grown : (spare : List ℕ) (mid : PageMap) (height key m a b c : ℕ) → TreeWith spare mid height → m < 4096 → a < 4096 → b < 4096 → c < 4096 → a ≢ b → a ≢ c → b ≢ c → IsLeafOf key (mid m) → length (mid m).rows ≡ 15

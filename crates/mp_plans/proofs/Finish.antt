@@ -1,25 +1,23 @@
 -- The end of a write: the former version becomes an undo record, and the row is put. And a row that is put back.
-use Rattle.std.proofs.Common.{◌≡◌, ◌≢◌, ℕ, ◌+◌, ◌<◌, ◌≤◌, ◌==◌, ◌&&◌, ◌||◌, nat_le, nat_lt, Bool, true, false, cond, List, [], ◌∷◌, ◌++◌, length, Option, Some, None, refl, sym, ap, subst, ◌∙◌, arith}
+use Rattle.std.proofs.Common.{◌≡◌, ℕ, ◌+◌, ◌<◌, ◌≤◌, ◌==◌, ◌||◌, nat_lt, Bool, true, false, cond, List, [], ◌∷◌, ◌++◌, length, Some, None, refl, sym, ap, subst, ◌∙◌, arith}
 use mathlib.Core.Bool.{false≢true}
 use Rattle.std.specs.Prelude.{is_some}
-use Rattle.std.proofs.lemmas.Bool.{and_parts, and_from, eqb-true, le-leb, lt-ltb, leb-true, ltb-true}
-use Rattle.mp_cells.specs.declared.changes.Change.{Change}
+use Rattle.std.proofs.lemmas.Bool.{and_from, eqb-true, le-leb, lt-ltb}
 use Rattle.mp_cells.specs.declared.changes.Change.TheVariants.{RestoreRow, PutRow, PutUndo}
 use Rattle.mp_cells.specs.declared.kinds.Kind.TheVariants.{Leaf, Undo}
-use Rattle.mp_cells.specs.declared.rows.Link.{Link}
 use Rattle.mp_cells.specs.declared.rows.Row.{Row}
-use Rattle.mp_cells.specs.PageView.{PageView, IsPage, is_of}
+use Rattle.mp_cells.specs.PageView.{PageView}
 use Rattle.mp_cells.specs.Keys.{holds, with_cell}
 use Rattle.mp_cells.specs.Rows.{IsRow}
 use Rattle.mp_cells.specs.Changes.{applied, takes_row, is_within, holds_row}
 use Rattle.mp_cells.specs.Trees.{PageMap, IsTree, tree_rows, row_at}
 use Rattle.mp_cells.proofs.KeyOrder.{Rises}
 use Rattle.mp_cells.proofs.AppliedPages.{applied-page}
-use Rattle.mp_plans.specs.Plans.{Plan, changed, with_page, after_plan, Meets, Agrees}
-use Rattle.mp_plans.specs.Writes.{undo_at, version_of, AddsUndo, Writes, Restores, WellRestore}
-use Rattle.mp_plans.proofs.Spare.{TreeWith, with_none, of_none, leaf_facts, kind_apart}
+use Rattle.mp_plans.specs.Plans.{Plan, with_page, after_plan}
+use Rattle.mp_plans.specs.Writes.{undo_at, version_of, Writes, Restores, WellRestore}
+use Rattle.mp_plans.proofs.Spare.{with_none, of_none, leaf_facts, kind_apart}
 use Rattle.mp_plans.proofs.Reshaping.{after_plan-append, Meets-append, can_apply, changed_is, Reshapes}
-use Rattle.mp_plans.proofs.Steps.{kind_test, AddsRecord, record_step, PutsRow, leaf_put}
+use Rattle.mp_plans.proofs.Steps.{kind_test, record_step, leaf_put}
 
 -- what a write needs of a map: an undo page with a free place, and a leaf that takes the row
 pub record Ready (mid : PageMap) (u m : ℕ) (former row : Row) : Type 0 where

@@ -1,33 +1,30 @@
 -- A tree grows for a row: in each case it is a tree again, and a leaf takes the row.
-use Rattle.std.proofs.Common.{◌≡◌, ◌≢◌, ℕ, zero, suc, ◌+◌, ◌<◌, ◌≤◌, ◌==◌, ◌||◌, nat_lt, Bool, true, false, cond, List, [], ◌∷◌, ◌++◌, length, take, drop, filter, Option, Some, None, refl, sym, ap, subst, ◌∙◌, inl, inr, ◌⊎◌, arith}
+use Rattle.std.proofs.Common.{◌≡◌, ◌≢◌, ℕ, zero, suc, ◌+◌, ◌<◌, ◌≤◌, ◌==◌, ◌||◌, nat_lt, Bool, true, false, cond, List, [], ◌∷◌, ◌++◌, length, take, drop, Some, refl, sym, ap, subst, ◌∙◌, inl, inr, ◌⊎◌, arith}
 use Rattle.std.specs.List.{AllByRecursion}
 use Rattle.std.proofs.lemmas.Bool.{cases_eq, cases_lt, lt-ltb}
 use Rattle.std.proofs.lemmas.Bool.Decides.{nat_tests}
-use Rattle.mp_cells.specs.declared.changes.Change.{Change}
-use Rattle.mp_cells.specs.declared.changes.Change.TheVariants.{MakeLeaf, MakeInner, Cut, PutChild}
+use Rattle.mp_cells.specs.declared.changes.Change.TheVariants.{MakeLeaf, Cut}
 use Rattle.mp_cells.specs.declared.kinds.Kind.{Kind}
-use Rattle.mp_cells.specs.declared.kinds.Kind.TheVariants.{Blank, Meta, Leaf, Inner, Undo}
+use Rattle.mp_cells.specs.declared.kinds.Kind.TheVariants.{Blank, Leaf, Inner, Undo}
 use Rattle.mp_cells.specs.declared.rows.Row.{Row}
 use Rattle.mp_cells.specs.declared.children.Child.{Child}
 use Rattle.mp_cells.specs.Children.{IsChild}
 use Rattle.mp_cells.specs.PageView.{PageView, IsPage}
-use Rattle.mp_cells.specs.Keys.{holds}
 use Rattle.mp_cells.specs.Changes.{applied, holds_row}
 use Rattle.mp_cells.specs.Trees.{PageMap, top, low_of, uses, one_if}
 use Rattle.mp_cells.proofs.KeyOrder.{Rises}
 use Rattle.mp_cells.proofs.ChildSpelling.{child_page_range}
 use Rattle.mp_plans.specs.Plans.{Plan, after_plan}
-use Rattle.mp_plans.specs.Growth.{first_key, leaf_separator, inner_separator, leaf_parts, inner_parts, root_leaf_parts, root_inner_parts, two_children, side, put_child, has_place}
-use Rattle.mp_plans.proofs.Uses.{uses-append, one_if-same, one_if-other}
+use Rattle.mp_plans.specs.Growth.{first_key, leaf_separator, inner_separator, leaf_parts, root_leaf_parts, side, put_child, has_place}
+use Rattle.mp_plans.proofs.Uses.{one_if-same, one_if-other}
 use Rattle.mp_plans.proofs.Heights.{numbers}
-use Rattle.mp_plans.proofs.Spare.{TreeWith, content_of, leaf_facts, inner_facts, kind_apart}
-use Rattle.mp_plans.proofs.Places.{in_level, InLevel}
-use Rattle.mp_plans.proofs.Reshaping.{Reshapes, reshapes_none, reshapes_then, after_plan-append}
-use Rattle.mp_plans.proofs.SplitTrees.{ChildFences, child_fences}
+use Rattle.mp_plans.proofs.Spare.{TreeWith, content_of, inner_facts, kind_apart}
+use Rattle.mp_plans.proofs.Places.{in_level}
+use Rattle.mp_plans.proofs.Reshaping.{Reshapes, reshapes_none}
+use Rattle.mp_plans.proofs.SplitTrees.{child_fences}
 use Rattle.mp_plans.proofs.Halves.{halves}
-use Rattle.mp_plans.proofs.SplitPieces.{SplitPiece, split_piece, PartsOf}
-use Rattle.mp_plans.proofs.Parts.{LeafParts, leaf_halves, leaf_cut, leaf_left, leaf_right, InnerParts, inner_halves, inner_cut, inner_left, inner_right, RootPiece, root_piece, root_fences}
-use Rattle.mp_plans.proofs.Reorders.{Same, same_more, same_then, moves, same_after, reshapes_same}
+use Rattle.mp_plans.proofs.SplitPieces.{split_piece, PartsOf}
+use Rattle.mp_plans.proofs.Parts.{leaf_halves, leaf_cut, leaf_left, leaf_right, root_piece, root_fences}
 
 -- what growing leaves: a tree, in which a leaf takes the row of a key
 pub record Grown (spare : List ℕ) (plan : Plan) (mid : PageMap) (height key target : ℕ) : Type 0 where
@@ -73,17 +70,17 @@ record Takes (new : PageMap) (key target : ℕ) : Type 0 where
 takes_side : (new : PageMap) (key l r separator : ℕ) (left right : PageView) → new l ≡ left → new r ≡ right → left.kind ≡ Leaf → right.kind ≡ Leaf → left.low ≤ key → left.high ≡ separator → right.low ≡ separator → key < right.high → length left.rows ≡ 8 → length right.rows ≡ 7 → Takes new key (side key separator l r)
 takes_side new key l r separator left right at_l at_r kind_l kind_r from high_l low_r until count_l count_r = elim (cases_lt key separator) [
   | inl below ↦ subst (Takes new key) (sym (side_left key separator l r below)) (record {
-      kind = ap (λ (p : PageView). p.kind) at_l ∙ kind_l;
-      from = subst (λ (p : PageView). p.low ≤ key) (sym at_l) from;
-      until = subst (λ (p : PageView). key < p.high) (sym at_l) (omega (arith, below, high_l));
-      place = subst (λ (p : PageView). has_place key p ≡ true) (sym at_l) (few key left 8 count_l (omega arith));
-    })
+    kind = ap (λ (p : PageView). p.kind) at_l ∙ kind_l;
+    from = subst (λ (p : PageView). p.low ≤ key) (sym at_l) from;
+    until = subst (λ (p : PageView). key < p.high) (sym at_l) (omega (arith, below, high_l));
+    place = subst (λ (p : PageView). has_place key p ≡ true) (sym at_l) (few key left 8 count_l (omega arith));
+  })
   | inr above ↦ subst (Takes new key) (sym (side_right key separator l r above)) (record {
-      kind = ap (λ (p : PageView). p.kind) at_r ∙ kind_r;
-      from = subst (λ (p : PageView). p.low ≤ key) (sym at_r) (omega (arith, above, low_r));
-      until = subst (λ (p : PageView). key < p.high) (sym at_r) until;
-      place = subst (λ (p : PageView). has_place key p ≡ true) (sym at_r) (few key right 7 count_r (omega arith));
-    })
+    kind = ap (λ (p : PageView). p.kind) at_r ∙ kind_r;
+    from = subst (λ (p : PageView). p.low ≤ key) (sym at_r) (omega (arith, above, low_r));
+    until = subst (λ (p : PageView). key < p.high) (sym at_r) until;
+    place = subst (λ (p : PageView). has_place key p ≡ true) (sym at_r) (few key right 7 count_r (omega arith));
+  })
 ]
 
 side_range : (key separator l r : ℕ) → l < 4096 → r < 4096 → side key separator l r < 4096

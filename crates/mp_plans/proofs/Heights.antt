@@ -1,15 +1,13 @@
 -- A tree has at most three levels: with four it would use more pages than there are.
-use Rattle.std.proofs.Common.{◌≡◌, ◌≢◌, ℕ, zero, suc, ◌+◌, ◌*◌, ◌<◌, ◌≤◌, ◌==◌, List, [], ◌∷◌, ◌++◌, length, map, refl, sym, ap, ◌∙◌, inl, inr, arith}
-use Rattle.std.specs.List.{AllByRecursion}
+use Rattle.std.proofs.Common.{◌≡◌, ℕ, zero, suc, ◌+◌, ◌*◌, ◌<◌, ◌≤◌, ◌==◌, List, [], ◌∷◌, length, map, inl, inr, arith}
 use Rattle.std.proofs.lemmas.Bool.{cases_lt}
 use Rattle.std.proofs.lemmas.List.{length-append, length-map}
 use Rattle.std.proofs.lemmas.Nat.Bits.{bit_at-lt}
-use Rattle.mp_cells.specs.declared.kinds.Kind.TheVariants.{Inner, Undo}
+use Rattle.mp_cells.specs.declared.kinds.Kind.TheVariants.{Inner}
 use Rattle.mp_cells.specs.declared.children.Child.{Child}
-use Rattle.mp_cells.specs.PageView.{IsPage, bit_of, is_of}
-use Rattle.mp_cells.specs.Trees.{PageMap, top, root, Fits, below, Levels, pages_under, tree_pages, one_if, uses, IsTree}
+use Rattle.mp_cells.specs.Trees.{PageMap, top, root, Fits, below, pages_under, tree_pages, one_if, uses, IsTree}
 use Rattle.mp_cells.proofs.TreeSearch.{InRange, below_in_range}
-use Rattle.mp_plans.proofs.Uses.{uses-append, uses-head, one_if-same, AllBelow, length_most}
+use Rattle.mp_plans.proofs.Uses.{uses-append, uses-head, AllBelow, length_most}
 
 abbrev pub numbers : List Child → List ℕ
 numbers level = map (λ child. child.page) level
@@ -54,7 +52,7 @@ four_levels pages h tree =
     let r2 : InRange second = below_in_range pages tree.sound top first r1 l0.1.0 in
     let r3 : InRange third = below_in_range pages tree.sound top second r2 l0.1.1.0 in
     let split : (n : ℕ) → uses n (tree_pages pages (suc (suc (suc h)))) ≡ one_if (1 == n) + (uses n (numbers first) + (uses n (numbers second) + uses n (pages_under pages h third))) =
-        λ n. omega (arith, uses-append n (1 ∷ []) (pages_under pages (suc (suc h)) first), uses-append n (numbers first) (pages_under pages (suc h) second), uses-append n (numbers second) (pages_under pages h third)) in
+    λ n. omega (arith, uses-append n (1 ∷ []) (pages_under pages (suc (suc h)) first), uses-append n (numbers first) (pages_under pages (suc h) second), uses-append n (numbers second) (pages_under pages h third)) in
     let once = used_once pages (suc (suc (suc h))) tree in
     let one = once 1 (omega arith) in
     let none1 : uses 1 (numbers first) ≡ 0 = omega (arith, split 1, one) in
@@ -82,7 +80,7 @@ root_has_room pages tree = elim (cases_lt (length (pages 1).children) 124) [
       let r1 : InRange first = below_in_range pages tree.sound top (root ∷ []) root_range l0.0 in
       let r2 : InRange second = below_in_range pages tree.sound top first r1 l0.1.0 in
       let split : (n : ℕ) → uses n (tree_pages pages 2) ≡ one_if (1 == n) + (uses n (numbers first) + uses n (numbers second)) =
-          λ n. omega (arith, uses-append n (1 ∷ []) (pages_under pages 1 first), uses-append n (numbers first) (pages_under pages 0 second)) in
+      λ n. omega (arith, uses-append n (1 ∷ []) (pages_under pages 1 first), uses-append n (numbers first) (pages_under pages 0 second)) in
       let once = used_once pages 2 tree in
       let none1 : uses 1 (numbers first) ≡ 0 = omega (arith, split 1, once 1 (omega arith)) in
       let count : length first ≡ length (pages 1).children = omega (arith, length-append (pages 1).children []) in

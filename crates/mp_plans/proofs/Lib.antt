@@ -10,7 +10,6 @@ pub mod Reshaping
 pub mod Steps
 pub mod Finish
 pub mod Halves
-
 pub mod SplitLevels
 pub mod SplitTrees
 pub mod RootSplits

@@ -1,32 +1,31 @@
 -- The two parts of a full leaf and of a full inner page, and the part of a plan that splits the root.
-use Rattle.std.proofs.Common.{◌≡◌, ◌≢◌, ℕ, zero, suc, ◌+◌, ◌^◌, ◌<◌, ◌≤◌, ◌==◌, ◌&&◌, ◌||◌, nat_lt, nat_le, Bool, true, false, cond, List, [], ◌∷◌, ◌++◌, length, take, drop, Option, Some, None, refl, sym, ap, subst, ◌∙◌, inl, inr, ◌⊎◌, arith}
+use Rattle.std.proofs.Common.{◌≡◌, ◌≢◌, ℕ, zero, suc, ◌+◌, ◌^◌, ◌<◌, ◌≤◌, ◌==◌, ◌&&◌, ◌||◌, Bool, true, false, cond, List, [], ◌∷◌, ◌++◌, length, take, drop, Some, None, refl, sym, ap, subst, ◌∙◌, inl, inr, arith}
 use Rattle.std.specs.List.{AllByRecursion}
 use Rattle.std.proofs.lemmas.Bool.{eq-eqb, and_from, lt-ltb, le-leb}
 use Rattle.std.proofs.lemmas.List.{length-drop, length-take-le, take-append-drop}
 use Rattle.mp_cells.specs.declared.changes.Change.{Change}
 use Rattle.mp_cells.specs.declared.changes.Change.TheVariants.{MakeLeaf, MakeInner, Cut}
-use Rattle.mp_cells.specs.declared.kinds.Kind.{Kind}
 use Rattle.mp_cells.specs.declared.kinds.Kind.TheVariants.{Blank, Meta, Leaf, Inner}
 use Rattle.mp_cells.specs.declared.rows.Row.{Row}
 use Rattle.mp_cells.specs.declared.children.Child.{Child}
 use Rattle.mp_cells.specs.Rows.{IsRow}
 use Rattle.mp_cells.specs.Children.{IsChild, is_child_page}
-use Rattle.mp_cells.specs.PageView.{PageView, IsPage, leaf_page, inner_page, is_leaf, is_inner, begins_at, are_fences, is_of}
+use Rattle.mp_cells.specs.PageView.{PageView, IsPage, leaf_page, inner_page, is_leaf, is_inner, begins_at, is_of}
 use Rattle.mp_cells.specs.Keys.{cells_below}
-use Rattle.mp_cells.specs.Changes.{applied, can_be_inner, can_be_cut, is_tree_page}
-use Rattle.mp_cells.specs.Trees.{PageMap, top, root, Levels, tree_pages, uses, one_if}
+use Rattle.mp_cells.specs.Changes.{applied, can_be_inner, is_tree_page}
+use Rattle.mp_cells.specs.Trees.{PageMap, top, tree_pages, uses, one_if}
 use Rattle.mp_cells.proofs.KeyOrder.{Rises, test-from_Rises}
 use Rattle.mp_cells.proofs.AppliedPages.{applied-page}
 use Rattle.mp_plans.specs.Plans.{Plan, after_plan}
 use Rattle.mp_plans.specs.Growth.{first_key, leaf_separator, inner_separator, two_children}
-use Rattle.mp_plans.proofs.Uses.{one_if-same, one_if-other}
+use Rattle.mp_plans.proofs.Uses.{one_if-same}
 use Rattle.mp_plans.proofs.Spare.{TreeWith, content_of, leaf_facts, inner_facts, kind_apart, spare_apart}
 use Rattle.mp_plans.proofs.Reshaping.{Reshapes}
 use Rattle.mp_plans.proofs.Steps.{kind_test}
-use Rattle.mp_plans.proofs.Halves.{Halves, halves, halves_above}
-use Rattle.mp_plans.proofs.SplitTrees.{IsNode, node_once, IsFilled, Again}
+use Rattle.mp_plans.proofs.Halves.{halves, halves_above}
+use Rattle.mp_plans.proofs.SplitTrees.{IsNode, node_once, IsFilled}
 use Rattle.mp_plans.proofs.RootSplits.{RootFits, root_tree}
-use Rattle.mp_plans.proofs.Pieces.{Three, three}
+use Rattle.mp_plans.proofs.Pieces.{three}
 use Rattle.mp_plans.proofs.SplitPieces.{PartsOf, all_drop, all_take}
 
 -- ---- a full leaf
@@ -71,7 +70,7 @@ leaf_halves page h kind full =
     let right_count : length (drop 8 page.rows) ≡ 7 = omega (arith, length-drop 8 page.rows, full) in
     let no_children : page.children ≡ [] = ap (λ (p : PageView). p.children) content.0 in
     let cuts : applied (Cut sep) page ≡ Some (leaf_cut page) = ap (λ (b : Bool). cond b (Some (leaf_cut page)) None)
-        (and_from _ _ (and_from _ _ (ap (λ (b : Bool). b || is_of Inner page) (kind_test Leaf page kind)) (lt-ltb page.low sep above)) (lt-ltb sep page.high below)) in
+    (and_from _ _ (and_from _ _ (ap (λ (b : Bool). b || is_of Inner page) (kind_test Leaf page kind)) (lt-ltb page.low sep above)) (lt-ltb sep page.high below)) in
     let left_test : is_leaf page.low sep (take 8 page.rows) ≡ true = and_from _ _ (and_from _ _ (and_from _ _ (lt-ltb page.low sep above) (le-leb sep (2 ^ 32) (omega (arith, below, facts.high_most)))) (le-leb _ 15 (omega (arith, left_count)))) (test-from_Rises (λ (r : Row). r.key) page.low sep (take 8 page.rows) cut.left) in
     let right_test : is_leaf sep page.high (drop 8 page.rows) ≡ true = and_from _ _ (and_from _ _ (and_from _ _ (lt-ltb sep page.high below) (le-leb page.high (2 ^ 32) facts.high_most)) (le-leb _ 15 (omega (arith, right_count)))) (test-from_Rises (λ (r : Row). r.key) sep page.high (drop 8 page.rows) cut.right) in
     let makes_left : (blank : PageView) → blank.kind ≡ Blank → applied (MakeLeaf page.low sep (take 8 page.rows)) blank ≡ Some (leaf_left page blank) = λ blank e. ap (λ (b : Bool). cond b (Some (leaf_left page blank)) None) (and_from _ _ (kind_test Blank blank e) left_test) in
@@ -86,22 +85,32 @@ leaf_halves page h kind full =
       makes_left = makes_left;
       makes_right = makes_right;
       parts_cut = λ blank b e. record {
-        left_kind = refl; left_low = refl; left_high = refl;
-        right_kind = sym kind; right_low = refl; right_high = refl;
+        left_kind = refl;
+        left_low = refl;
+        left_high = refl;
+        right_kind = sym kind;
+        right_low = refl;
+        right_high = refl;
         rows = ap (λ (xs : List Row). xs ++ drop 8 page.rows) cut.below ∙ take-append-drop 8 page.rows;
         children = ap (λ (xs : List Child). cells_below (λ c. c.low) sep xs ++ []) no_children ∙ sym no_children;
-        above = above; below = below;
+        above = above;
+        below = below;
         sound_l = applied-page (Cut sep) page (leaf_cut page) h tt cuts;
         sound_r = applied-page (MakeLeaf sep page.high (drop 8 page.rows)) blank (leaf_right page blank) b (all_drop IsRow 8 page.rows content.2) (makes_right blank e);
         filled_l = leaf_filled (leaf_cut page) kind (omega (arith, ap (λ (xs : List Row). length xs) cut.below, left_count));
         filled_r = leaf_filled (leaf_right page blank) refl (omega (arith, right_count));
       };
       parts_made = λ a b ha hb ea eb. record {
-        left_kind = sym kind; left_low = refl; left_high = refl;
-        right_kind = sym kind; right_low = refl; right_high = refl;
+        left_kind = sym kind;
+        left_low = refl;
+        left_high = refl;
+        right_kind = sym kind;
+        right_low = refl;
+        right_high = refl;
         rows = take-append-drop 8 page.rows;
         children = sym no_children;
-        above = above; below = below;
+        above = above;
+        below = below;
         sound_l = applied-page (MakeLeaf page.low sep (take 8 page.rows)) a (leaf_left page a) ha (all_take IsRow 8 page.rows content.2) (makes_left a ea);
         sound_r = applied-page (MakeLeaf sep page.high (drop 8 page.rows)) b (leaf_right page b) hb (all_drop IsRow 8 page.rows content.2) (makes_right b eb);
         filled_l = leaf_filled (leaf_left page a) refl (omega (arith, left_count));
@@ -156,7 +165,7 @@ inner_halves page h kind full =
     let no_rows : page.rows ≡ [] = ap (λ (p : PageView). p.rows) content.0 in
     let either : (a b : Bool) → b ≡ true → (a || b) ≡ true = or_right in
     let cuts : applied (Cut sep) page ≡ Some (inner_cut page) = ap (λ (b : Bool). cond b (Some (inner_cut page)) None)
-        (and_from _ _ (and_from _ _ (either (is_of Leaf page) (is_of Inner page) (kind_test Inner page kind)) (lt-ltb page.low sep above)) (lt-ltb sep page.high below)) in
+    (and_from _ _ (and_from _ _ (either (is_of Leaf page) (is_of Inner page) (kind_test Inner page kind)) (lt-ltb page.low sep above)) (lt-ltb sep page.high below)) in
     let left_test : is_inner page.low sep (take 62 page.children) ≡ true = and_from _ _ (and_from _ _ (and_from _ _ (and_from _ _ (lt-ltb page.low sep above) (le-leb sep (2 ^ 32) (omega (arith, below, facts.high_most)))) (begins_take page.low 62 page.children facts.first (omega arith))) (le-leb _ 124 (omega (arith, left_count)))) (test-from_Rises (λ (c : Child). c.low) page.low sep (take 62 page.children) cut.left) in
     let right_test : is_inner sep page.high (drop 62 page.children) ≡ true = and_from _ _ (and_from _ _ (and_from _ _ (and_from _ _ (lt-ltb sep page.high below) (le-leb page.high (2 ^ 32) facts.high_most)) (begins_first (drop 62 page.children) (omega (arith, right_count)))) (le-leb _ 124 (omega (arith, right_count)))) (test-from_Rises (λ (c : Child). c.low) sep page.high (drop 62 page.children) cut.right) in
     let makes_left : (blank : PageView) → blank.kind ≡ Blank → applied (MakeInner page.low sep (take 62 page.children)) blank ≡ Some (inner_left page blank) = λ blank e. ap (λ (b : Bool). cond b (Some (inner_left page blank)) None) (and_from _ _ (ap (λ (b : Bool). b || (is_tree_page blank && blank.low == page.low && blank.high == sep)) (kind_test Blank blank e)) left_test) in
@@ -173,22 +182,32 @@ inner_halves page h kind full =
       makes_left = makes_left;
       makes_right = makes_right;
       parts_cut = λ blank b e. record {
-        left_kind = refl; left_low = refl; left_high = refl;
-        right_kind = sym kind; right_low = refl; right_high = refl;
+        left_kind = refl;
+        left_low = refl;
+        left_high = refl;
+        right_kind = sym kind;
+        right_low = refl;
+        right_high = refl;
         rows = ap (λ (xs : List Row). cells_below (λ r. r.key) sep xs ++ []) no_rows ∙ sym no_rows;
         children = ap (λ (xs : List Child). xs ++ drop 62 page.children) cut.below ∙ take-append-drop 62 page.children;
-        above = above; below = below;
+        above = above;
+        below = below;
         sound_l = applied-page (Cut sep) page (inner_cut page) h tt cuts;
         sound_r = applied-page (MakeInner sep page.high (drop 62 page.children)) blank (inner_right page blank) b (all_drop IsChild 62 page.children content.2) (makes_right blank e);
         filled_l = inner_filled (inner_cut page) kind (omega (arith, ap (λ (xs : List Child). length xs) cut.below, left_count));
         filled_r = inner_filled (inner_right page blank) refl (omega (arith, right_count));
       };
       parts_made = λ a b ha hb ea eb. record {
-        left_kind = sym kind; left_low = refl; left_high = refl;
-        right_kind = sym kind; right_low = refl; right_high = refl;
+        left_kind = sym kind;
+        left_low = refl;
+        left_high = refl;
+        right_kind = sym kind;
+        right_low = refl;
+        right_high = refl;
         rows = sym no_rows;
         children = take-append-drop 62 page.children;
-        above = above; below = below;
+        above = above;
+        below = below;
         sound_l = applied-page (MakeInner page.low sep (take 62 page.children)) a (inner_left page a) ha (all_take IsChild 62 page.children content.2) (makes_left a ea);
         sound_r = applied-page (MakeInner sep page.high (drop 62 page.children)) b (inner_right page b) hb (all_drop IsChild 62 page.children content.2) (makes_right b eb);
         filled_l = inner_filled (inner_left page a) refl (omega (arith, left_count));

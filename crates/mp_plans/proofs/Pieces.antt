@@ -1,19 +1,18 @@
 -- Parts of a plan that change three pages, each once, and the place of a new child.
-use Rattle.std.proofs.Common.{◌≡◌, ◌≢◌, ℕ, zero, suc, ◌+◌, ◌<◌, ◌≤◌, ◌==◌, ◌&&◌, ◌||◌, not, nat_lt, Bool, true, false, cond, List, [], ◌∷◌, ◌++◌, length, Option, Some, None, refl, sym, ap, subst, ◌∙◌, inl, inr, arith}
+use Rattle.std.proofs.Common.{◌≡◌, ◌≢◌, ℕ, ◌+◌, ◌<◌, ◌≤◌, ◌==◌, not, Bool, true, false, cond, List, [], ◌∷◌, ◌++◌, length, Some, None, refl, sym, ap, subst, ◌∙◌, inl, inr, arith}
 use Rattle.std.proofs.lemmas.Bool.{cases_eq, eq-eqb, and_from, lt-ltb}
 use Rattle.std.proofs.lemmas.Bool.Decides.{nat_tests}
 use Rattle.mp_cells.specs.declared.changes.Change.{Change}
 use Rattle.mp_cells.specs.declared.kinds.Kind.TheVariants.{Inner}
 use Rattle.mp_cells.specs.declared.changes.Change.TheVariants.{PutChild}
 use Rattle.mp_cells.specs.declared.children.Child.{Child}
-use Rattle.mp_cells.specs.PageView.{PageView, is_of}
+use Rattle.mp_cells.specs.PageView.{PageView}
 use Rattle.mp_cells.specs.Keys.{holds, with_cell}
 use Rattle.mp_cells.specs.Changes.{applied, takes_child}
 use Rattle.mp_cells.specs.Trees.{PageMap, low_of, uses}
 use Rattle.mp_cells.proofs.KeyOrder.{Rises, absent_above}
-use Rattle.mp_plans.specs.Plans.{Plan, CanApply, changed, with_page, after_change, after_plan, Meets, of_page, after_changes, MeetsAll}
+use Rattle.mp_plans.specs.Plans.{Plan, after_plan, Meets, of_page, after_changes, MeetsAll}
 use Rattle.mp_plans.proofs.ByPage.{after_plan-page, Meets-from_pages}
-use Rattle.mp_plans.proofs.Uses.{uses-head}
 use Rattle.mp_plans.proofs.Heights.{numbers}
 use Rattle.mp_plans.proofs.Reshaping.{can_apply, changed_is}
 use Rattle.mp_plans.proofs.Steps.{kind_test}
@@ -105,6 +104,7 @@ child_fits page m new before child behind kind whole rises is none_before none_b
     let low_test = lt-ltb page.low new.low (omega (arith, bounds.0)) in
     let high_test = lt-ltb new.low page.high (omega (arith, bounds.1)) in
     let free : not (holds (λ c. c.low) new.low page.children) ≡ true = ap not held in
-    let test : takes_child new page ≡ true = and_from _ _ (and_from _ _ (and_from _ _ (and_from _ _ (kind_test Inner page kind) low_test) high_test) free) (lt-ltb (length page.children) 124 room) in
-    (ap (λ (b : Bool). cond b (Some (record page { children = with_cell (λ c. c.low) new page.children })) None) test,
-     ap (with_cell (λ (c : Child). c.low) new) whole ∙ put_between m page.low page.high new child before behind r is none_before none_behind above below ∙ ap (split_at m new) (sym whole))
+    let test : takes_child new page ≡ true = and_from _ _ (and_from _ _ (and_from _ _ (and_from _ _ (kind_test Inner page kind) low_test) high_test) free) (lt-ltb (length page.children) 124 room) in (
+      ap (λ (b : Bool). cond b (Some (record page { children = with_cell (λ c. c.low) new page.children })) None) test,
+      ap (with_cell (λ (c : Child). c.low) new) whole ∙ put_between m page.low page.high new child before behind r is none_before none_behind above below ∙ ap (split_at m new) (sym whole),
+    )

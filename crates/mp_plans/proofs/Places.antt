@@ -1,20 +1,16 @@
 -- Where a leaf stands in a tree, and what that says of the rows of all leaves.
-use Rattle.std.proofs.Common.{◌≡◌, ◌≢◌, ℕ, zero, suc, ◌+◌, ◌<◌, ◌≤◌, ◌==◌, Bool, true, false, List, [], ◌∷◌, ◌++◌, length, map, Option, Some, None, refl, sym, ap, subst, ◌∙◌, inl, inr, ◌⊎◌, arith}
-use Rattle.std.specs.List.{AllByRecursion}
+use Rattle.std.proofs.Common.{◌≡◌, ◌≢◌, ℕ, zero, suc, ◌+◌, ◌<◌, ◌≤◌, ◌==◌, List, [], ◌∷◌, ◌++◌, refl, sym, ap, subst, ◌∙◌, inl, inr, arith}
 use Rattle.std.proofs.lemmas.Bool.{cases_eq}
 use Rattle.std.proofs.lemmas.List.Concat.{flat_map-append}
-use Rattle.std.proofs.lemmas.Nat.Bits.{bit_at-lt}
 use Rattle.mp_cells.specs.declared.kinds.Kind.{Kind}
-use Rattle.mp_cells.specs.declared.kinds.Kind.TheVariants.{Blank, Meta, Leaf, Inner, Undo}
-use Rattle.mp_cells.specs.declared.rows.Row.{Row}
+use Rattle.mp_cells.specs.declared.kinds.Kind.TheVariants.{Leaf, Inner}
 use Rattle.mp_cells.specs.declared.children.Child.{Child}
-use Rattle.mp_cells.specs.PageView.{PageView, IsPage, HasContent, kind_number, is_of, bit_of}
-use Rattle.mp_cells.specs.Trees.{PageMap, top, root, low_of, Fits, below, Levels, leaves, pages_under, tree_pages, one_if, uses, IsTree, rows_under, tree_rows, row_at}
+use Rattle.mp_cells.specs.PageView.{IsPage}
+use Rattle.mp_cells.specs.Trees.{PageMap, top, root, low_of, Fits, below, Levels, leaves, pages_under, one_if, uses, rows_under, tree_rows, row_at}
 use Rattle.mp_cells.proofs.KeyOrder.{Rises}
-use Rattle.mp_cells.proofs.PageRanges.{LeafRanges, leaf_ranges, InnerRanges, inner_ranges}
 use Rattle.mp_cells.proofs.TreeSearch.{InRange, below_in_range, fits_parts, FitsInParts, level_rises}
 use Rattle.mp_plans.proofs.Stretches.{row_at-below, row_at-above, row_at-append}
-use Rattle.mp_plans.proofs.Uses.{uses-append, uses-head, one_if-same, one_if-other, one_if-is}
+use Rattle.mp_plans.proofs.Uses.{uses-append, one_if-same, one_if-other}
 use Rattle.mp_plans.proofs.Spare.{TreeWith, leaf_once}
 use Rattle.mp_plans.proofs.Heights.{numbers, root_range}
 

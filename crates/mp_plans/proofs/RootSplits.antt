@@ -1,18 +1,15 @@
 -- The root is split: its two parts go into new pages, and it becomes an inner page of two children.
-use Rattle.std.proofs.Common.{◌≡◌, ◌≢◌, ℕ, zero, suc, ◌+◌, ◌<◌, ◌≤◌, ◌==◌, Bool, true, false, List, [], ◌∷◌, ◌++◌, length, refl, sym, ap, subst, ◌∙◌, inl, inr, arith}
+use Rattle.std.proofs.Common.{◌≡◌, ◌≢◌, ℕ, zero, suc, ◌+◌, ◌<◌, ◌≤◌, ◌==◌, false, List, [], ◌∷◌, ◌++◌, length, refl, sym, ap, subst, ◌∙◌, inl, inr, arith}
 use Rattle.std.proofs.lemmas.Bool.{cases_eq}
-use Rattle.std.proofs.lemmas.List.{append_assoc, append-nil}
+use Rattle.std.proofs.lemmas.List.{append_assoc}
 use Rattle.std.proofs.lemmas.Nat.Bits.{bit_at-lt}
 use Rattle.mp_cells.specs.declared.kinds.Kind.{Kind}
 use Rattle.mp_cells.specs.declared.kinds.Kind.TheVariants.{Blank, Meta, Leaf, Inner, Undo}
-use Rattle.mp_cells.specs.declared.rows.Link.{Link}
-use Rattle.mp_cells.specs.declared.rows.Row.{Row}
 use Rattle.mp_cells.specs.declared.children.Child.{Child}
 use Rattle.mp_cells.specs.PageView.{PageView, IsPage, is_of, bit_of}
-use Rattle.mp_cells.specs.Trees.{PageMap, top, root, low_of, Fits, below, Levels, leaves, pages_under, tree_pages, one_if, uses, rows_under}
+use Rattle.mp_cells.specs.Trees.{PageMap, top, root, Fits, below, Levels, leaves, pages_under, tree_pages, one_if, uses, rows_under}
 use Rattle.mp_plans.specs.Writes.{record_in}
-use Rattle.mp_plans.proofs.Uses.{uses-append, one_if-same, one_if-other}
-use Rattle.mp_plans.proofs.Heights.{numbers}
+use Rattle.mp_plans.proofs.Uses.{one_if-same}
 use Rattle.mp_plans.proofs.Spare.{TreeWith, kind_apart, spare_apart}
 use Rattle.mp_plans.proofs.Reshaping.{no_record}
 use Rattle.mp_plans.proofs.Steps.{kind_other}
@@ -70,10 +67,10 @@ module _ (spare spare' : List ℕ) (pages new : PageMap) (left right : Child) (f
       let count : (n : ℕ) → uses n (1 ∷ pages_under pages height deep) ≡ one_if (1 == n) + uses n (pages_under pages height deep) = λ n. refl in
       let next : below new (left ∷ right ∷ []) ≡ deep = joined (λ p. p.children) f.children in
       let same : (n : ℕ) → 1 ≤ uses n (pages_under pages height deep) → new n ≡ pages n = λ n h.
-          f.others n
-          (λ (e : n ≡ 1). absurd (omega (arith, h, one, count 1, one_if-same 1, ap (λ (k : ℕ). uses k (pages_under pages height deep)) e)))
-          (λ (e : n ≡ left.page). absurd (omega (arith, h, no_l, count left.page, ap (λ (k : ℕ). uses k (pages_under pages height deep)) e)))
-          (λ (e : n ≡ right.page). absurd (omega (arith, h, no_r, count right.page, ap (λ (k : ℕ). uses k (pages_under pages height deep)) e))) in
+      f.others n
+      (λ (e : n ≡ 1). absurd (omega (arith, h, one, count 1, one_if-same 1, ap (λ (k : ℕ). uses k (pages_under pages height deep)) e)))
+      (λ (e : n ≡ left.page). absurd (omega (arith, h, no_l, count left.page, ap (λ (k : ℕ). uses k (pages_under pages height deep)) e)))
+      (λ (e : n ≡ right.page). absurd (omega (arith, h, no_r, count right.page, ap (λ (k : ℕ). uses k (pages_under pages height deep)) e))) in
       let rest = levels_on pages new height deep same l.1 in
       record {
         levels = (parts_fit Inner l.0.0, subst (Levels new height) (sym next) rest.levels);
@@ -97,16 +94,16 @@ module _ (spare spare' : List ℕ) (pages new : PageMap) (left right : Child) (f
       let node_l : IsNode (new l).kind = subst IsNode (sym f.left_kind) f.node in
       let node_r : IsNode (new r).kind = subst IsNode (sym f.right_kind) f.node in
       let by_page : (P : ℕ → PageView → Type 0) → P 1 (new 1) → P l (new l) → P r (new r) → ((n : ℕ) → P n (pages n)) → (n : ℕ) → P n (new n) = λ P at_1 at_l at_r rest n.
-          elim (cases_eq n 1) [
-            | inl same ↦ subst (λ (k : ℕ). P k (new k)) (sym same) at_1
-            | inr not_1 ↦ elim (cases_eq n l) [
-              | inl same ↦ subst (λ (k : ℕ). P k (new k)) (sym same) at_l
-              | inr not_l ↦ elim (cases_eq n r) [
-                | inl same ↦ subst (λ (k : ℕ). P k (new k)) (sym same) at_r
-                | inr not_r ↦ subst (P n) (sym (f.others n not_1 not_l not_r)) (rest n)
-              ]
-            ]
-          ] in
+      elim (cases_eq n 1) [
+        | inl same ↦ subst (λ (k : ℕ). P k (new k)) (sym same) at_1
+        | inr not_1 ↦ elim (cases_eq n l) [
+          | inl same ↦ subst (λ (k : ℕ). P k (new k)) (sym same) at_l
+          | inr not_l ↦ elim (cases_eq n r) [
+            | inl same ↦ subst (λ (k : ℕ). P k (new k)) (sym same) at_r
+            | inr not_r ↦ subst (P n) (sym (f.others n not_1 not_l not_r)) (rest n)
+          ]
+        ]
+      ] in
       let apart_l : 0 ≢ l = kind_apart pages 0 l Meta Blank tree.meta blank_l (λ (e : Meta ≡ Blank). absurd cc) in
       let apart_r : 0 ≢ r = kind_apart pages 0 r Meta Blank tree.meta blank_r (λ (e : Meta ≡ Blank). absurd cc) in
       let apart_1 : ◌≢◌ {A = ℕ} 0 1 = λ (e : ◌≡◌ {A = ℕ} 0 1). absurd (omega (arith, e)) in

@@ -1,11 +1,11 @@
 -- Changes that keep a tree's shape: each page of the tree keeps its kind, its fences and its children.
-use Rattle.std.proofs.Common.{◌≡◌, ◌≢◌, ℕ, zero, suc, ◌+◌, ◌<◌, ◌≤◌, ◌==◌, Bool, true, false, List, [], ◌∷◌, ◌++◌, length, map, refl, sym, ap, subst, ◌∙◌, inl, inr, arith}
+use Rattle.std.proofs.Common.{◌≡◌, ℕ, zero, suc, ◌+◌, ◌<◌, ◌≤◌, List, [], ◌∷◌, ◌++◌, length, map, refl, sym, ap, subst, ◌∙◌, arith}
 use Rattle.mp_cells.specs.declared.kinds.Kind.{Kind}
 use Rattle.mp_cells.specs.declared.kinds.Kind.TheVariants.{Blank, Meta, Leaf, Inner, Undo}
 use Rattle.mp_cells.specs.declared.rows.Row.{Row}
 use Rattle.mp_cells.specs.declared.children.Child.{Child}
 use Rattle.mp_cells.specs.PageView.{PageView, IsPage, is_of, bit_of}
-use Rattle.mp_cells.specs.Trees.{PageMap, top, root, low_of, Fits, below, Levels, leaves, pages_under, tree_pages, one_if, uses, rows_under, tree_rows}
+use Rattle.mp_cells.specs.Trees.{PageMap, top, root, Fits, below, Levels, leaves, pages_under, one_if, uses, rows_under, tree_rows}
 use Rattle.mp_plans.proofs.Spare.{TreeWith}
 use Rattle.mp_plans.proofs.Places.{leaves_fit}
 
@@ -19,7 +19,6 @@ pub record SameNode (old new : PageView) : Type 0 where
 pub record SameShape (pages new : PageMap) : Type 0 where
   pub leaf : (n : ℕ) → (pages n).kind ≡ Leaf → SameNode (pages n) (new n)
   pub inner : (n : ℕ) → (pages n).kind ≡ Inner → SameNode (pages n) (new n)
-
 
 fits_same : (pages new : PageMap) (kind : Kind) → ((n : ℕ) → (pages n).kind ≡ kind → SameNode (pages n) (new n)) → (high : ℕ) (level : List Child) → Fits pages kind high level → Fits new kind high level
 fits_same pages new kind same high [] f = tt

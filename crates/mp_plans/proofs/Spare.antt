@@ -1,9 +1,8 @@
 -- A tree beside pages that are taken and not used yet: what a map is while a plan is applied.
-use Rattle.std.proofs.Common.{◌≡◌, ◌≢◌, ℕ, ◌+◌, ◌<◌, ◌≤◌, ◌==◌, Bool, true, false, List, [], ◌∷◌, ◌++◌, length, refl, sym, ap, subst, ◌∙◌, arith}
+use Rattle.std.proofs.Common.{◌≡◌, ◌≢◌, ℕ, ◌+◌, ◌<◌, ◌≤◌, ◌==◌, false, List, [], ◌∷◌, length, refl, sym, ap, subst, ◌∙◌, arith}
 use Rattle.std.proofs.lemmas.Nat.Bits.{bit_at-lt}
 use Rattle.mp_cells.specs.declared.kinds.Kind.{Kind}
 use Rattle.mp_cells.specs.declared.kinds.Kind.TheVariants.{Blank, Meta, Leaf, Inner, Undo}
-use Rattle.mp_cells.specs.declared.children.Child.{Child}
 use Rattle.mp_cells.specs.PageView.{PageView, IsPage, HasContent, kind_number, is_of, bit_of}
 use Rattle.mp_cells.specs.Trees.{PageMap, root, Levels, tree_pages, one_if, uses, IsTree}
 use Rattle.mp_cells.proofs.PageRanges.{LeafRanges, leaf_ranges, InnerRanges, inner_ranges}

@@ -1,15 +1,14 @@
 -- A page of the tree is split, and its parent gets the right part as one more child: every level fits again, and the rows
 -- are the same.
-use Rattle.std.proofs.Common.{◌≡◌, ◌≢◌, ℕ, zero, suc, ◌+◌, ◌<◌, ◌≤◌, ◌==◌, Bool, true, false, cond, List, [], ◌∷◌, ◌++◌, length, map, refl, sym, ap, subst, ◌∙◌, inl, inr, ◌⊎◌, arith}
+use Rattle.std.proofs.Common.{◌≡◌, ◌≢◌, ℕ, zero, suc, ◌+◌, ◌≤◌, ◌==◌, List, [], ◌∷◌, ◌++◌, refl, sym, ap, subst, ◌∙◌, inl, inr, arith}
 use Rattle.std.specs.List.{flat_map}
 use Rattle.std.proofs.lemmas.Bool.{cases_eq, cases_lt}
 use Rattle.std.proofs.lemmas.List.{append_assoc}
 use Rattle.mp_cells.specs.declared.kinds.Kind.{Kind}
-use Rattle.mp_cells.specs.declared.kinds.Kind.TheVariants.{Blank, Meta, Leaf, Inner, Undo}
-use Rattle.mp_cells.specs.declared.rows.Row.{Row}
+use Rattle.mp_cells.specs.declared.kinds.Kind.TheVariants.{Leaf, Inner}
 use Rattle.mp_cells.specs.declared.children.Child.{Child}
 use Rattle.mp_cells.specs.PageView.{PageView}
-use Rattle.mp_cells.specs.Trees.{PageMap, top, root, low_of, Fits, below, Levels, leaves, pages_under, one_if, uses, rows_under}
+use Rattle.mp_cells.specs.Trees.{PageMap, top, Fits, below, Levels, leaves, pages_under, one_if, uses, rows_under}
 use Rattle.mp_plans.proofs.Uses.{uses-append, uses-head, one_if-same, one_if-other}
 use Rattle.mp_plans.proofs.Heights.{numbers, level_uses}
 use Rattle.mp_plans.proofs.Places.{not_in_level, numbers-append}
@@ -20,9 +19,12 @@ use Rattle.mp_plans.proofs.Halves.{split_at, split_at-none, split_at-here, split
 fits_on : (pages new : PageMap) (kind : Kind) (high : ℕ) (level : List Child) → ((n : ℕ) → 1 ≤ uses n (numbers level) → new n ≡ pages n) → Fits pages kind high level → Fits new kind high level
 fits_on pages new kind high [] same f = tt
 fits_on pages new kind high (child ∷ level) same f =
-    let here : new child.page ≡ pages child.page = same child.page (omega (arith, one_if-same child.page)) in
-    (ap (λ (p : PageView). p.kind) here ∙ f.0, ap (λ (p : PageView). p.low) here ∙ f.1, ap (λ (p : PageView). p.high) here ∙ f.2,
-     fits_on pages new kind high level (λ n h. same n (omega (arith, h))) f.3)
+    let here : new child.page ≡ pages child.page = same child.page (omega (arith, one_if-same child.page)) in (
+      ap (λ (p : PageView). p.kind) here ∙ f.0,
+      ap (λ (p : PageView). p.low) here ∙ f.1,
+      ap (λ (p : PageView). p.high) here ∙ f.2,
+      fits_on pages new kind high level (λ n h. same n (omega (arith, h))) f.3,
+    )
 
 flat_on : {T : Type 0} (F : PageView → List T) (pages new : PageMap) (level : List Child) → ((n : ℕ) → 1 ≤ uses n (numbers level) → new n ≡ pages n) → flat_map (λ (c : Child). F (new c.page)) level ≡ flat_map (λ (c : Child). F (pages c.page)) level
 flat_on F pages new [] same = refl
@@ -84,11 +86,12 @@ module _ (pages new : PageMap) (m p : ℕ) (right : Child) (s : Splits pages new
         let none : uses m (numbers level) ≡ 0 = omega (arith, once, ap (λ (n : ℕ). one_if (n == m)) same, one_if-same m) in
         let rest = fits_on pages new kind high level (same_where (numbers level) none (omega (arith, no_p)) (omega (arith, no_r))) f.3 in
         let kind_is : (pages m).kind ≡ kind = ap (λ (n : ℕ). (pages n).kind) (sym same) ∙ f.0 in
-        subst (Fits new kind high) (sym (split_at-here m right child level same none))
-        (ap (λ (n : ℕ). (new n).kind) same ∙ s.left_kind ∙ kind_is,
-         ap (λ (n : ℕ). (new n).low) same ∙ s.left_low ∙ ap (λ (n : ℕ). (pages n).low) (sym same) ∙ f.1,
-         ap (λ (n : ℕ). (new n).high) same ∙ s.left_high,
-         (s.right_kind ∙ kind_is, s.right_low, s.right_high ∙ ap (λ (n : ℕ). (pages n).high) (sym same) ∙ f.2, rest))
+        subst (Fits new kind high) (sym (split_at-here m right child level same none)) (
+          ap (λ (n : ℕ). (new n).kind) same ∙ s.left_kind ∙ kind_is,
+          ap (λ (n : ℕ). (new n).low) same ∙ s.left_low ∙ ap (λ (n : ℕ). (pages n).low) (sym same) ∙ f.1,
+          ap (λ (n : ℕ). (new n).high) same ∙ s.left_high,
+          (s.right_kind ∙ kind_is, s.right_low, s.right_high ∙ ap (λ (n : ℕ). (pages n).high) (sym same) ∙ f.2, rest),
+        )
     | inr apart ↦
         let parts_p = uses-head p child.page (numbers level) no_p in
         let parts_r = uses-head right.page child.page (numbers level) no_r in

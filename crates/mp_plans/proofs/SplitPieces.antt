@@ -1,36 +1,29 @@
 -- The part of a plan that splits a page under its parent: the right part is made, the left part is cut, and the parent
 -- gets the right part as a child.
-use Rattle.std.proofs.Common.{◌≡◌, ◌≢◌, ℕ, zero, suc, ◌+◌, ◌^◌, ◌<◌, ◌≤◌, ◌==◌, ◌&&◌, ◌||◌, nat_lt, nat_le, Bool, true, false, cond, List, [], ◌∷◌, ◌++◌, length, take, drop, Option, Some, None, refl, sym, ap, subst, ◌∙◌, inl, inr, ◌⊎◌, arith}
+use Rattle.std.proofs.Common.{◌≡◌, ◌≢◌, ℕ, zero, suc, ◌+◌, ◌^◌, ◌<◌, ◌≤◌, ◌==◌, true, List, [], ◌∷◌, ◌++◌, length, take, drop, Some, sym, ap, subst, ◌∙◌, inl, inr, arith}
 use Rattle.std.specs.List.{AllByRecursion}
-use Rattle.std.proofs.lemmas.Bool.{cases_eq, cases_lt, eq-eqb, and_from, lt-ltb, le-leb}
-use Rattle.std.proofs.lemmas.List.{length-append, length-drop, length-take-le, take-append-drop}
+use Rattle.std.proofs.lemmas.Bool.{cases_eq, cases_lt, and_from, lt-ltb, le-leb}
 use Rattle.mp_cells.specs.declared.changes.Change.{Change}
-use Rattle.mp_cells.specs.declared.changes.Change.TheVariants.{MakeLeaf, MakeInner, Cut, PutChild}
-use Rattle.mp_cells.specs.declared.kinds.Kind.{Kind}
+use Rattle.mp_cells.specs.declared.changes.Change.TheVariants.{Cut, PutChild}
 use Rattle.mp_cells.specs.declared.kinds.Kind.TheVariants.{Blank, Meta, Leaf, Inner}
-use Rattle.mp_cells.specs.declared.rows.Row.{Row}
 use Rattle.mp_cells.specs.declared.children.Child.{Child}
-use Rattle.mp_cells.specs.Rows.{IsRow}
 use Rattle.mp_cells.specs.Children.{IsChild, is_child_page}
-use Rattle.mp_cells.specs.PageView.{PageView, IsPage, leaf_page, inner_page, is_leaf, is_inner, begins_at, are_fences, is_of}
-use Rattle.mp_cells.specs.Keys.{with_cell, cells_below}
-use Rattle.mp_cells.specs.Changes.{applied, can_be_inner, can_be_cut, is_tree_page}
+use Rattle.mp_cells.specs.PageView.{PageView, IsPage, is_inner}
+use Rattle.mp_cells.specs.Keys.{with_cell}
+use Rattle.mp_cells.specs.Changes.{applied}
 use Rattle.mp_cells.specs.Trees.{PageMap, top, root, low_of, below, Levels, pages_under, tree_pages, uses, one_if}
-use Rattle.mp_cells.proofs.KeyOrder.{Rises, test-from_Rises}
 use Rattle.mp_cells.proofs.KeyEdits.{length-with_cell}
 use Rattle.mp_cells.proofs.AppliedPages.{applied-page}
 use Rattle.mp_cells.proofs.ChildSpelling.{child_page_range}
-use Rattle.mp_plans.specs.Plans.{Plan, after_plan, Meets}
-use Rattle.mp_plans.specs.Growth.{first_key, leaf_separator, inner_separator, leaf_parts, inner_parts, put_child}
+use Rattle.mp_plans.specs.Plans.{Plan, after_plan}
+use Rattle.mp_plans.specs.Growth.{put_child}
 use Rattle.mp_plans.proofs.Uses.{uses-append, one_if-same, one_if-other}
 use Rattle.mp_plans.proofs.Heights.{numbers, level_uses}
 use Rattle.mp_plans.proofs.Spare.{TreeWith, content_of, leaf_facts, inner_facts, kind_apart, inner_once, spare_apart}
 use Rattle.mp_plans.proofs.Places.{numbers-append, not_in_level, in_level, parts_uses}
 use Rattle.mp_plans.proofs.Reshaping.{Reshapes}
-use Rattle.mp_plans.proofs.Steps.{kind_test}
-use Rattle.mp_plans.proofs.Halves.{Halves, halves, halves_above}
-use Rattle.mp_plans.proofs.SplitTrees.{IsNode, node_apart, node_once, ChildFences, child_fences, IsFilled, SplitFits, Again, split_tree}
-use Rattle.mp_plans.proofs.Pieces.{Three, three, child_fits}
+use Rattle.mp_plans.proofs.SplitTrees.{IsNode, node_once, child_fences, IsFilled, SplitFits, split_tree}
+use Rattle.mp_plans.proofs.Pieces.{three, child_fits}
 
 -- ---- a parent's children in the tree
 
@@ -52,9 +45,10 @@ children_under pages p n (suc height) level kind l h =
     let count : (k : ℕ) → uses k (numbers level ++ pages_under pages height (below pages level)) ≡ uses k (numbers level) + uses k (pages_under pages height (below pages level)) = λ k. uses-append k (numbers level) (pages_under pages height (below pages level)) in
     elim (cases_lt 0 (uses p (numbers level))) [
       | inl some ↦
-          let here : 1 ≤ uses p (numbers level) = omega (arith, some) in
-          (omega (arith, count n, children_below pages p n level here, level_uses pages height (below pages level) n),
-           omega (arith, count p, here, children_below pages p p level here, level_uses pages height (below pages level) p))
+          let here : 1 ≤ uses p (numbers level) = omega (arith, some) in (
+            omega (arith, count n, children_below pages p n level here, level_uses pages height (below pages level) n),
+            omega (arith, count p, here, children_below pages p p level here, level_uses pages height (below pages level) p),
+          )
       | inr none ↦
           let rest = children_under pages p n height (below pages level) kind l.1 (omega (arith, h, none, count p)) in
           (omega (arith, count n, rest.0), omega (arith, count p, rest.1))
@@ -180,6 +174,7 @@ split_piece spare spare' pages height m p r separator make left right tree node 
     root_used : (height : ℕ) → TreeWith spare pages height → 1 ≤ uses 1 (tree_pages pages height)
     root_used zero t = omega (arith, one_if-same 1)
     root_used (suc h) t = omega (arith, one_if-same 1)
+
     high_most : (pages m).high ≤ 2 ^ 32
     high_most = elim node [
       | inl leaf ↦ (leaf_facts (pages m) (tree.sound m range_m) leaf).high_most

@@ -1,26 +1,24 @@
 -- A tree of which a page, or the root, was split is a tree.
-use Rattle.std.proofs.Common.{◌≡◌, ◌≢◌, ℕ, zero, suc, ◌+◌, ◌<◌, ◌≤◌, ◌==◌, Bool, true, false, cond, List, [], ◌∷◌, ◌++◌, length, map, Option, Some, None, refl, sym, ap, subst, ◌∙◌, inl, inr, ◌⊎◌, arith}
-use Rattle.std.specs.List.{flat_map}
+use Rattle.std.proofs.Common.{◌≡◌, ◌≢◌, ℕ, zero, suc, ◌+◌, ◌<◌, ◌≤◌, ◌==◌, false, List, [], ◌∷◌, ◌++◌, length, refl, sym, ap, subst, ◌∙◌, inl, inr, ◌⊎◌, arith}
 use Rattle.std.proofs.lemmas.Bool.{cases_eq, cases_lt}
-use Rattle.std.proofs.lemmas.List.{append_assoc, append-nil}
+use Rattle.std.proofs.lemmas.List.{append_assoc}
 use Rattle.std.proofs.lemmas.List.Concat.{flat_map-append}
 use Rattle.std.proofs.lemmas.Nat.Bits.{bit_at-lt}
 use Rattle.mp_cells.specs.declared.kinds.Kind.{Kind}
 use Rattle.mp_cells.specs.declared.kinds.Kind.TheVariants.{Blank, Meta, Leaf, Inner, Undo}
 use Rattle.mp_cells.specs.declared.rows.Link.{Link}
-use Rattle.mp_cells.specs.declared.rows.Row.{Row}
 use Rattle.mp_cells.specs.declared.children.Child.{Child}
-use Rattle.mp_cells.specs.PageView.{PageView, IsPage, kind_number, is_of, bit_of}
-use Rattle.mp_cells.specs.Trees.{PageMap, top, root, low_of, Fits, below, Levels, leaves, pages_under, tree_pages, one_if, uses, rows_under, tree_rows}
+use Rattle.mp_cells.specs.PageView.{PageView, IsPage, is_of, bit_of}
+use Rattle.mp_cells.specs.Trees.{PageMap, top, root, low_of, Fits, below, Levels, pages_under, tree_pages, one_if, uses, tree_rows}
 use Rattle.mp_cells.proofs.TreeSearch.{InRange, below_in_range, low_of-below, fits_parts}
 use Rattle.mp_plans.specs.Writes.{record_in, undo_at}
-use Rattle.mp_plans.proofs.Uses.{uses-append, uses-head, one_if-same, one_if-other}
+use Rattle.mp_plans.proofs.Uses.{uses-append, one_if-same}
 use Rattle.mp_plans.proofs.Heights.{numbers, root_range}
 use Rattle.mp_plans.proofs.Spare.{TreeWith, kind_apart, in_tree, inner_once, spare_apart}
 use Rattle.mp_plans.proofs.Places.{in_level, in_parts, not_in_level}
 use Rattle.mp_plans.proofs.Reshaping.{no_record}
 use Rattle.mp_plans.proofs.Steps.{kind_other}
-use Rattle.mp_plans.proofs.SplitLevels.{After, levels_on, Splits, split_under}
+use Rattle.mp_plans.proofs.SplitLevels.{Splits, split_under}
 
 -- a leaf or an inner page
 abbrev pub IsNode : Kind → Type 0
@@ -81,9 +79,9 @@ fences_under pages sound p before child behind kind is (suc height) level r l h 
       let range = in_parts at.before at.child at.behind (subst InRange at.whole r) in
       let parts = fits_parts pages Inner top at.before at.child at.behind (subst (Fits pages Inner top) at.whole l.0) in
       let next : below pages level ≡ below pages at.before ++ ((before ++ child ∷ behind) ++ below pages at.behind) =
-          ap (below pages) at.whole ∙ flat_map-append (λ (c : Child). (pages c.page).children) at.before (at.child ∷ at.behind)
-          ∙ ap (λ (n : ℕ). below pages at.before ++ ((pages n).children ++ below pages at.behind)) at.page_is
-          ∙ ap (λ (xs : List Child). below pages at.before ++ (xs ++ below pages at.behind)) is in
+      ap (below pages) at.whole ∙ flat_map-append (λ (c : Child). (pages c.page).children) at.before (at.child ∷ at.behind)
+      ∙ ap (λ (n : ℕ). below pages at.before ++ ((pages n).children ++ below pages at.behind)) at.page_is
+      ∙ ap (λ (xs : List Child). below pages at.before ++ (xs ++ below pages at.behind)) is in
       let end : low_of (below pages at.behind) top ≡ (pages p).high = low_of-below pages sound top at.behind range.1 parts.back ∙ sym parts.high_is ∙ ap (λ (n : ℕ). (pages n).high) at.page_is in
       next_level height (below pages at.before) (below pages at.behind) (subst (Levels pages height) next l.1) end
   | inr none ↦ fences_under pages sound p before child behind kind is height (below pages level) (below_in_range pages sound top level r l.0) l.1 (omega (arith, h, none, uses-append p (numbers level) (pages_under pages height (below pages level))))
@@ -137,16 +135,16 @@ split_tree spare spare' pages new height m p right tree f =
     let new_node_m : IsNode (new m).kind = subst IsNode (sym s.left_kind) f.node in
     let new_node_r : IsNode (new r).kind = subst IsNode (sym s.right_kind) f.node in
     let by_page : (P : ℕ → PageView → Type 0) → P m (new m) → P p (new p) → P r (new r) → ((n : ℕ) → P n (pages n)) → (n : ℕ) → P n (new n) = λ P at_m at_p at_r rest n.
-        elim (cases_eq n m) [
-          | inl same ↦ subst (λ (k : ℕ). P k (new k)) (sym same) at_m
-          | inr not_m ↦ elim (cases_eq n p) [
-            | inl same ↦ subst (λ (k : ℕ). P k (new k)) (sym same) at_p
-            | inr not_p ↦ elim (cases_eq n r) [
-              | inl same ↦ subst (λ (k : ℕ). P k (new k)) (sym same) at_r
-              | inr not_r ↦ subst (P n) (sym (s.others n not_m not_p not_r)) (rest n)
-            ]
-          ]
-        ] in
+    elim (cases_eq n m) [
+      | inl same ↦ subst (λ (k : ℕ). P k (new k)) (sym same) at_m
+      | inr not_m ↦ elim (cases_eq n p) [
+        | inl same ↦ subst (λ (k : ℕ). P k (new k)) (sym same) at_p
+        | inr not_p ↦ elim (cases_eq n r) [
+          | inl same ↦ subst (λ (k : ℕ). P k (new k)) (sym same) at_r
+          | inr not_r ↦ subst (P n) (sym (s.others n not_m not_p not_r)) (rest n)
+        ]
+      ]
+    ] in
     let apart_m : 0 ≢ m = λ (e : 0 ≡ m). meta_apart (pages m).kind f.node (ap (λ (k : ℕ). (pages k).kind) (sym e) ∙ tree.meta) in
     let apart_p : 0 ≢ p = kind_apart pages 0 p Meta Inner tree.meta s.parent_before (λ (e : Meta ≡ Inner). absurd cc) in
     let apart_r : 0 ≢ r = kind_apart pages 0 r Meta Blank tree.meta blank (λ (e : Meta ≡ Blank). absurd cc) in

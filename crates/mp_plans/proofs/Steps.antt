@@ -1,37 +1,36 @@
 -- The steps of a plan that keep the shape of a tree: a page is taken, becomes an undo page, gets a record; a leaf's row
 -- is put.
-use Rattle.std.proofs.Common.{◌≡◌, ◌≢◌, ℕ, zero, suc, ◌+◌, ◌<◌, ◌≤◌, ◌==◌, ◌&&◌, nat_le, nat_lt, Bool, true, false, cond, List, [], ◌∷◌, ◌++◌, length, Option, Some, None, refl, sym, ap, subst, ◌∙◌, inl, inr, arith}
+use Rattle.std.proofs.Common.{◌≡◌, ◌≢◌, ℕ, zero, suc, ◌+◌, ◌<◌, ◌≤◌, ◌==◌, ◌&&◌, Bool, true, false, cond, List, [], ◌∷◌, ◌++◌, length, Some, None, refl, sym, ap, subst, ◌∙◌, inl, inr, arith}
 use Rattle.std.specs.List.{slice_get}
-use Rattle.std.proofs.lemmas.Bool.{and_from, cases_eq, cases_lt, eq-eqb, le-leb, lt-ltb}
+use Rattle.std.proofs.lemmas.Bool.{and_from, cases_eq, eq-eqb, le-leb, lt-ltb}
 use Rattle.std.proofs.lemmas.Bool.Decides.{nat_tests}
 use Rattle.std.proofs.lemmas.List.{length-append}
 use Rattle.std.proofs.lemmas.List.Concat.{flat_map-append}
 use Rattle.std.proofs.lemmas.Nat.Bits.{bit_at-lt}
 use Rattle.std.proofs.lemmas.Option.{slice_get_past}
-use Rattle.mp_cells.specs.declared.changes.Change.{Change}
-use Rattle.mp_cells.specs.declared.changes.Change.TheVariants.{MakeLeaf, MakeInner, MakeUndo, PutRow, RestoreRow, Cut, PutChild, PutUndo, TakePage}
+use Rattle.mp_cells.specs.declared.changes.Change.TheVariants.{MakeUndo, PutUndo, TakePage}
 use Rattle.mp_cells.specs.declared.kinds.Kind.{Kind}
 use Rattle.mp_cells.specs.declared.kinds.Kind.TheVariants.{Blank, Meta, Leaf, Inner, Undo}
 use Rattle.mp_cells.specs.declared.rows.Link.{Link}
 use Rattle.mp_cells.specs.declared.rows.Row.{Row}
 use Rattle.mp_cells.specs.declared.children.Child.{Child}
-use Rattle.mp_cells.specs.PageView.{PageView, IsPage, AreBits, undo_page, kind_number, is_of, bit_of, with_bit}
+use Rattle.mp_cells.specs.PageView.{PageView, IsPage, undo_page, kind_number, is_of, bit_of, with_bit}
 use Rattle.mp_cells.specs.Keys.{with_cell}
 use Rattle.mp_cells.specs.Rows.{IsRow}
 use Rattle.mp_cells.specs.Changes.{applied, takes_page}
-use Rattle.mp_cells.specs.Trees.{PageMap, top, root, low_of, leaves, one_if, uses, rows_under, tree_rows}
+use Rattle.mp_cells.specs.Trees.{PageMap, top, low_of, one_if, uses, rows_under, tree_rows}
 use Rattle.mp_cells.proofs.KeyEdits.{length-with_cell}
 use Rattle.mp_cells.proofs.AppliedPages.{applied-page}
-use Rattle.mp_plans.specs.Plans.{Plan, CanApply, changed, with_page, after_change, after_plan, Meets}
+use Rattle.mp_plans.specs.Plans.{with_page, after_plan, Meets}
 use Rattle.mp_plans.specs.Writes.{record_in, undo_at, is_link}
 use Rattle.mp_plans.proofs.ByPage.{with_page-here, with_page-other}
 use Rattle.mp_plans.proofs.Uses.{one_if-same, one_if-other, uses-head}
 use Rattle.mp_plans.proofs.Heights.{numbers}
 use Rattle.mp_plans.proofs.Bits.{with_bit-same, with_bit-other}
-use Rattle.mp_plans.proofs.Spare.{TreeWith, content_of, leaf_facts, not_undo, is_undo, kind_apart}
+use Rattle.mp_plans.proofs.Spare.{TreeWith, content_of, leaf_facts, not_undo, kind_apart}
 use Rattle.mp_plans.proofs.Stretches.{with_cell-middle}
-use Rattle.mp_plans.proofs.Places.{LeafPlace, leaf_place}
-use Rattle.mp_plans.proofs.Shapes.{SameNode, SameShape, Keeps, kept_tree, kept_leaves, kept_rows}
+use Rattle.mp_plans.proofs.Places.{leaf_place}
+use Rattle.mp_plans.proofs.Shapes.{SameNode, Keeps, kept_tree, kept_leaves, kept_rows}
 use Rattle.mp_plans.proofs.Reshaping.{can_apply, changed_is, at_page, no_record, undo_kept, Reshapes}
 
 -- a test of a kind
@@ -182,8 +181,8 @@ record_step spare pages height u row tree lt kind room is_row =
     let keeps = content_keeps spare pages height u page tree (applied-page (PutUndo row) old page (tree.sound u lt) is_row is) (record { kind = refl; low = refl; high = refl; children = refl }) meta (omega (arith, length-append old.rows (row ∷ []))) in
     let others : (n : ℕ) → n ≢ u → new n ≡ pages n = with_page-other pages u page in
     let here : (index : ℕ) → record_in page index ≡ cond (index == length old.rows) (Some row) (record_in old index) = λ index.
-        let test : is_of Undo old ≡ true = kind_test Undo old kind in
-        ap (λ (b : Bool). cond b (slice_get (old.rows ++ row ∷ []) index) None) test ∙ slice_get_push old.rows row index ∙ ap (λ (b : Bool). cond (index == length old.rows) (Some row) (cond b (slice_get old.rows index) None)) (sym test) in
+    let test : is_of Undo old ≡ true = kind_test Undo old kind in
+    ap (λ (b : Bool). cond b (slice_get (old.rows ++ row ∷ []) index) None) test ∙ slice_get_push old.rows row index ∙ ap (λ (b : Bool). cond (index == length old.rows) (Some row) (cond b (slice_get old.rows index) None)) (sym test) in
     record {
       meets = (can_apply (PutUndo row) old page is, tt);
       tree = subst (λ (m : PageMap). TreeWith spare m height) (sym after) (kept_tree spare spare pages new height keeps tree);
@@ -223,10 +222,10 @@ leaf_put spare pages height m row tree lt kind from until is_page =
     let back = rows_under pages place.behind in
     let here : (new place.child.page).rows ≡ page.rows = ap (λ (n : ℕ). (new n).rows) place.page_is ∙ ap (λ (p : PageView). p.rows) (with_page-here pages m page) in
     let parts : rows_under new (place.before ++ place.child ∷ place.behind) ≡ front ++ (page.rows ++ back) =
-        flat_map-append (λ (c : Child). (new c.page).rows) place.before (place.child ∷ place.behind)
-        ∙ ap (λ (xs : List Row). xs ++ ((new place.child.page).rows ++ rows_under new place.behind)) (rows_apart pages m page place.before place.not_before)
-        ∙ ap (λ (xs : List Row). front ++ ((new place.child.page).rows ++ xs)) (rows_apart pages m page place.behind place.not_behind)
-        ∙ ap (λ (xs : List Row). front ++ (xs ++ back)) here in
+    flat_map-append (λ (c : Child). (new c.page).rows) place.before (place.child ∷ place.behind)
+    ∙ ap (λ (xs : List Row). xs ++ ((new place.child.page).rows ++ rows_under new place.behind)) (rows_apart pages m page place.before place.not_before)
+    ∙ ap (λ (xs : List Row). front ++ ((new place.child.page).rows ++ xs)) (rows_apart pages m page place.behind place.not_behind)
+    ∙ ap (λ (xs : List Row). front ++ (xs ++ back)) here in
     let none : (index : ℕ) → record_in page index ≡ record_in old index = λ index. no_record page index (kind_other Undo Leaf page kind refl) ∙ sym (no_record old index (kind_other Undo Leaf old kind refl)) in
     record {
       tree = kept_tree spare spare pages new height keeps tree;

@@ -1,5 +1,5 @@
 -- Rows in three stretches of keys: a row of the middle one is found and put there.
-use Rattle.std.proofs.Common.{◌≡◌, ℕ, ◌+◌, ◌<◌, ◌≤◌, ◌==◌, ◌&&◌, nat_lt, nat_le, Bool, true, false, cond, List, [], ◌∷◌, ◌++◌, length, filter, Option, Some, None, refl, sym, ap, ◌∙◌, arith}
+use Rattle.std.proofs.Common.{◌≡◌, ℕ, ◌+◌, ◌<◌, ◌≤◌, ◌==◌, nat_lt, Bool, false, cond, List, [], ◌∷◌, ◌++◌, filter, Some, None, refl, sym, ap, ◌∙◌, arith}
 use Rattle.std.proofs.lemmas.Bool.Decides.{nat_tests}
 use Rattle.std.proofs.lemmas.List.{append_assoc, append-nil}
 use Rattle.std.proofs.lemmas.List.Elements.{filter-append}
@@ -40,11 +40,11 @@ with_cell-middle {T} key new low mid high end front cells back f from b until =
     let lt : T → Bool = λ cell. nat_lt (key cell) (key new) in
     let gt : T → Bool = λ cell. nat_lt (key new) (key cell) in
     let below : filter lt (front ++ (cells ++ back)) ≡ front ++ filter lt cells =
-        filter-append lt front (cells ++ back) ∙ ap (λ (xs : List T). filter lt front ++ xs) (filter-append lt cells back)
-        ∙ rw (all_below key (key new) low mid front f from, below_none key (key new) high end back b (omega arith), append-nil (filter lt cells)) refl in
+    filter-append lt front (cells ++ back) ∙ ap (λ (xs : List T). filter lt front ++ xs) (filter-append lt cells back)
+    ∙ rw (all_below key (key new) low mid front f from, below_none key (key new) high end back b (omega arith), append-nil (filter lt cells)) refl in
     let above : filter gt (front ++ (cells ++ back)) ≡ filter gt cells ++ back =
-        filter-append gt front (cells ++ back) ∙ ap (λ (xs : List T). filter gt front ++ xs) (filter-append gt cells back)
-        ∙ rw (none_above key (key new) low mid front f from, above_all key (key new) high end back b until) refl in
+    filter-append gt front (cells ++ back) ∙ ap (λ (xs : List T). filter gt front ++ xs) (filter-append gt cells back)
+    ∙ rw (none_above key (key new) low mid front f from, above_all key (key new) high end back b until) refl in
     ap (λ (xs : List T). xs ++ new ∷ filter gt (front ++ (cells ++ back))) below
     ∙ ap (λ (xs : List T). (front ++ filter lt cells) ++ new ∷ xs) above
     ∙ append_assoc front (filter lt cells) (new ∷ (filter gt cells ++ back))

@@ -1,16 +1,16 @@
 -- Several pages are taken: each is spare then, and nothing else changes.
-use Rattle.std.proofs.Common.{◌≡◌, ◌≢◌, ℕ, zero, suc, ◌+◌, ◌<◌, ◌≤◌, ◌==◌, Bool, true, cond, List, [], ◌∷◌, ◌++◌, Some, None, refl, sym, ap, subst, ◌∙◌, arith}
+use Rattle.std.proofs.Common.{◌≡◌, ◌≢◌, ℕ, ◌+◌, ◌<◌, ◌≤◌, Bool, true, cond, List, [], ◌∷◌, Some, None, refl, ap, ◌∙◌, arith}
 use Rattle.std.specs.List.{AllByRecursion}
 use Rattle.std.proofs.lemmas.Bool.{and_from, eq-eqb, le-leb, lt-ltb}
 use Rattle.mp_cells.specs.declared.changes.Change.TheVariants.{TakePage}
 use Rattle.mp_cells.specs.declared.kinds.Kind.TheVariants.{Meta}
-use Rattle.mp_cells.specs.PageView.{PageView, IsPage, AreBits, bit_of, with_bit}
+use Rattle.mp_cells.specs.PageView.{PageView, bit_of, with_bit}
 use Rattle.mp_cells.specs.Changes.{applied, takes_page}
-use Rattle.mp_cells.specs.Trees.{PageMap, uses, one_if}
-use Rattle.mp_plans.specs.Plans.{Plan, after_plan, changed, with_page}
+use Rattle.mp_cells.specs.Trees.{PageMap, uses}
+use Rattle.mp_plans.specs.Plans.{Plan, after_plan, with_page}
 use Rattle.mp_plans.specs.Growth.{takes}
 use Rattle.mp_plans.proofs.ByPage.{with_page-here, with_page-other}
-use Rattle.mp_plans.proofs.Uses.{one_if-same, one_if-other, uses-head}
+use Rattle.mp_plans.proofs.Uses.{one_if-same, uses-head}
 use Rattle.mp_plans.proofs.Bits.{with_bit-other}
 use Rattle.mp_plans.proofs.Spare.{TreeWith, content_of}
 use Rattle.mp_plans.proofs.Reshaping.{changed_is, Reshapes, reshapes_none, reshapes_then}
@@ -19,7 +19,12 @@ use Rattle.mp_plans.proofs.Steps.{kind_test, take_step}
 -- spare pages in another order
 pub respare : (spare spare' : List ℕ) (pages : PageMap) (height : ℕ) → ((n : ℕ) → uses n spare ≡ uses n spare') → TreeWith spare pages height → TreeWith spare' pages height
 respare spare spare' pages height same tree = record {
-  sound = tree.sound; meta = tree.meta; levels = tree.levels; leaf_fill = tree.leaf_fill; inner_fill = tree.inner_fill; root_fill = tree.root_fill;
+  sound = tree.sound;
+  meta = tree.meta;
+  levels = tree.levels;
+  leaf_fill = tree.leaf_fill;
+  inner_fill = tree.inner_fill;
+  root_fill = tree.root_fill;
   bits = λ n lt. omega (arith, tree.bits n lt, same n);
   blank = tree.blank;
   unused = λ n lt h. tree.unused n lt (omega (arith, h, same n));

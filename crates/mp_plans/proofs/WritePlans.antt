@@ -1,25 +1,24 @@
 -- The plan of a write, whole: over every tree that has the pages that it changes, it writes the row.
-use Rattle.std.proofs.Common.{◌≡◌, ◌≢◌, ℕ, zero, suc, ◌+◌, ◌^◌, ◌<◌, ◌≤◌, ◌==◌, ◌||◌, nat_lt, Bool, true, false, cond, List, [], ◌∷◌, ◌++◌, length, take, drop, map, Option, Some, None, refl, sym, ap, subst, ◌∙◌, inl, inr, arith}
+use Rattle.std.proofs.Common.{◌≡◌, ◌≢◌, ℕ, ◌^◌, ◌<◌, ◌≤◌, ◌==◌, Bool, true, false, cond, List, [], ◌∷◌, ◌++◌, length, take, Some, None, refl, sym, ap, subst, ◌∙◌, inl, inr, arith}
 use Rattle.std.specs.Prelude.{is_some}
-use Rattle.std.specs.List.{AllByRecursion, flat_map}
+use Rattle.std.specs.List.{AllByRecursion}
 use Rattle.std.proofs.lemmas.List.{append-nil}
 use Rattle.std.proofs.lemmas.List.Concat.{flat_map-append}
 use Rattle.std.proofs.lemmas.Nat.Bits.{bit_at-lt}
 use Rattle.mp_cells.specs.declared.changes.Change.{Change}
-use Rattle.mp_cells.specs.declared.changes.Change.TheVariants.{MakeUndo, PutRow, PutUndo, TakePage}
+use Rattle.mp_cells.specs.declared.changes.Change.TheVariants.{MakeUndo, PutRow, PutUndo}
 use Rattle.mp_cells.specs.declared.kinds.Kind.{Kind}
 use Rattle.mp_cells.specs.declared.kinds.Kind.TheVariants.{Blank, Meta, Leaf, Inner, Undo}
-use Rattle.mp_cells.specs.declared.rows.Link.{Link}
 use Rattle.mp_cells.specs.declared.rows.Row.{Row}
 use Rattle.mp_cells.specs.Rows.{IsRow}
-use Rattle.mp_cells.specs.PageView.{PageView, IsPage, undo_page, bit_of}
+use Rattle.mp_cells.specs.PageView.{PageView, undo_page}
 use Rattle.mp_cells.specs.Changes.{applied}
 use Rattle.mp_cells.specs.Trees.{PageMap, IsTree, tree_rows, row_at, uses, one_if}
-use Rattle.mp_plans.specs.Plans.{Plan, after_plan, changed, with_page, Agrees}
+use Rattle.mp_plans.specs.Plans.{Plan, after_plan, with_page, Agrees}
 use Rattle.mp_plans.specs.Growth.{Growth, stays, new_root, leaf, inner, higher, pages_needed, growth_changes, leaf_after, new_pages, takes, write_plan, has_place, leaf_parts, inner_parts, root_inner_parts, leaf_separator, inner_separator, side, put_child}
 use Rattle.mp_plans.specs.Writes.{version_of, row_put, rows_put, row_restored, rows_restored, page_taken, pages_taken, Writes, WellPut}
 use Rattle.mp_plans.proofs.ByPage.{with_page-here, with_page-other}
-use Rattle.mp_plans.proofs.Uses.{uses-append, one_if-same, one_if-other, AllBelow}
+use Rattle.mp_plans.proofs.Uses.{one_if-same, AllBelow}
 use Rattle.mp_plans.proofs.Heights.{numbers}
 use Rattle.mp_plans.proofs.Spare.{TreeWith, with_none, content_of, kind_apart}
 use Rattle.mp_plans.proofs.Places.{row_in_leaf}
@@ -29,7 +28,7 @@ use Rattle.mp_plans.proofs.SplitTrees.{IsNode}
 use Rattle.mp_plans.proofs.Finish.{Ready, finished}
 use Rattle.mp_plans.proofs.Growths.{Grown, IsLeafOf, stays_grown, leaf_grown, new_root_grown}
 use Rattle.mp_plans.proofs.DoubleSplits.{inner_grown, higher_grown}
-use Rattle.mp_plans.proofs.Taking.{respared, IsClear, Taken, take_all}
+use Rattle.mp_plans.proofs.Taking.{respared, IsClear, take_all}
 
 -- ---- what each growth needs of the pages that it changes
 
@@ -384,9 +383,9 @@ well_written given growth m fresh u a b c row w = record {
         link = w.link ∙ ap (λ (q : PageView). Some (record { page = u; index = cond fresh 0 (length q.rows) })) (sym undo_same);
       } in
       let plan_same : write_plan growth m fresh u pages a b c row ≡ write_plan growth m fresh u given a b c row =
-          ap (λ (p : Plan). taken ++ cond fresh ((u, MakeUndo) ∷ []) [] ++ p ++ (u, PutUndo (version_of row.key (row_at row.key (pages m).rows))) ∷ (leaf_after growth row.key m pages a b, PutRow row) ∷ []) (changes_same growth pages given m a b c same)
-          ∙ ap (λ (q : PageView). taken ++ cond fresh ((u, MakeUndo) ∷ []) [] ++ changes ++ (u, PutUndo (version_of row.key (row_at row.key q.rows))) ∷ (leaf_after growth row.key m pages a b, PutRow row) ∷ []) leaf_same
-          ∙ ap (λ (n : ℕ). taken ++ cond fresh ((u, MakeUndo) ∷ []) [] ++ changes ++ (u, PutUndo (version_of row.key (row_at row.key (given m).rows))) ∷ (n, PutRow row) ∷ []) (target_same growth pages given row.key m a b leaf_same) in
+      ap (λ (p : Plan). taken ++ cond fresh ((u, MakeUndo) ∷ []) [] ++ p ++ (u, PutUndo (version_of row.key (row_at row.key (pages m).rows))) ∷ (leaf_after growth row.key m pages a b, PutRow row) ∷ []) (changes_same growth pages given m a b c same)
+      ∙ ap (λ (q : PageView). taken ++ cond fresh ((u, MakeUndo) ∷ []) [] ++ changes ++ (u, PutUndo (version_of row.key (row_at row.key q.rows))) ∷ (leaf_after growth row.key m pages a b, PutRow row) ∷ []) leaf_same
+      ∙ ap (λ (n : ℕ). taken ++ cond fresh ((u, MakeUndo) ∷ []) [] ++ changes ++ (u, PutUndo (version_of row.key (row_at row.key (given m).rows))) ∷ (n, PutRow row) ∷ []) (target_same growth pages given row.key m a b leaf_same) in
       subst (λ (p : Plan). Writes p row pages height) plan_same (written pages height growth m fresh u a b c row tree fits);
   puts = plan_puts growth m fresh u given a b c row;
   restores = plan_restores growth m fresh u given a b c row;

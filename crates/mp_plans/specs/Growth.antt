@@ -1,10 +1,10 @@
 -- How a tree of pages grows where a leaf has no place for a row, and the plan of a write.
-use Rattle.std.specs.Prelude.{◌≡◌, ℕ, zero, suc, ◌+◌, ◌==◌, ◌||◌, nat_lt, Bool, true, false, List, [], ◌∷◌, ◌++◌, length, take, drop, map, Option, Some, None, if◌then◌else◌}
+use Rattle.std.specs.Prelude.{ℕ, zero, suc, ◌||◌, nat_lt, Bool, List, [], ◌∷◌, ◌++◌, length, take, drop, map, if◌then◌else◌}
 use Rattle.mp_cells.specs.declared.changes.Change.{Change}
-use Rattle.mp_cells.specs.declared.changes.Change.TheVariants.{MakeLeaf, MakeInner, MakeUndo, PutRow, RestoreRow, Cut, PutChild, PutUndo, TakePage}
+use Rattle.mp_cells.specs.declared.changes.Change.TheVariants.{MakeLeaf, MakeInner, MakeUndo, PutRow, Cut, PutChild, PutUndo, TakePage}
 use Rattle.mp_cells.specs.declared.rows.Row.{Row}
 use Rattle.mp_cells.specs.declared.children.Child.{Child}
-use Rattle.mp_cells.specs.PageView.{PageView, bit_of}
+use Rattle.mp_cells.specs.PageView.{PageView}
 use Rattle.mp_cells.specs.Changes.{holds_row}
 use Rattle.mp_cells.specs.Trees.{PageMap, top, root, leaf_at, row_at}
 use Rattle.mp_plans.specs.Plans.{Plan}
@@ -111,6 +111,7 @@ growth_of pages height key = if has_place key (pages (leaf_at pages height key r
   where
     under : ℕ → Growth → Growth
     under parent full = if nat_lt (length (pages parent).children) 124 then leaf parent else full
+
     grown : ℕ → Growth
     grown zero = new_root
     grown (suc zero) = under 1 higher

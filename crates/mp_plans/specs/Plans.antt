@@ -1,10 +1,8 @@
 -- Plans: changes of pages in order, when they can be applied, and what they leave.
-use Rattle.std.specs.Prelude.{◌≡◌, ℕ, ◌==◌, Bool, List, [], ◌∷◌, ◌++◌, Option, Some, None, IsSome, if◌then◌else◌}
+use Rattle.std.specs.Prelude.{◌≡◌, ℕ, ◌==◌, List, [], ◌∷◌, Option, Some, None, IsSome, if◌then◌else◌}
 use Rattle.mp_cells.specs.declared.changes.Change.{Change}
-use Rattle.mp_cells.specs.declared.changes.Change.TheVariants.{MakeLeaf, MakeInner, MakeUndo, PutRow, RestoreRow, Cut, PutChild, PutUndo, TakePage}
 use Rattle.mp_cells.specs.declared.records.Record.{Record}
 use Rattle.mp_cells.specs.declared.records.Record.TheVariants as records
-use Rattle.mp_cells.specs.declared.rows.Row.{Row}
 use Rattle.mp_cells.specs.PageView.{PageView}
 use Rattle.mp_cells.specs.Changes.{applied}
 use Rattle.mp_cells.specs.Trees.{PageMap}

@@ -1,6 +1,5 @@
 -- Calls on a pager one after another.
-use Rattle.std.proofs.Common.{◌≡◌, ◌≢◌, ℕ, ◌+◌, ◌-◌, ◌^◌, ◌<◌, ◌≤◌, min, Some, Result, Ok, Err, refl, sym, ap, subst, ◌∙◌, inl, inr, arith}
-use Rattle.std.proofs.lemmas.Bool.{cases_eq}
+use Rattle.std.proofs.Common.{◌≡◌, ℕ, ◌+◌, ◌-◌, ◌^◌, ◌≤◌, min, Some, Result, Ok, Err, refl, subst, ◌∙◌}
 use Rattle.std.specs.Borrow.{Bor}
 use Rattle.mp_model.specs.declared.waiting.NotYet.{NotYet}
 use Rattle.mp_cells.specs.PageView.{PageView}

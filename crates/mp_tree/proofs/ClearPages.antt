@@ -1,12 +1,11 @@
 -- The clear pages from one on: this one or not, and then the next.
-use Rattle.std.proofs.Common.{◌≡◌, ◌≢◌, ℕ, zero, suc, ◌+◌, ◌-◌, ◌*◌, ◌<◌, ◌≤◌, ◌==◌, Bool, true, false, cond, List, [], ◌∷◌, ◌++◌, length, take, refl, sym, ap, subst, ◌∙◌, inl, inr, arith}
-use Rattle.std.specs.List.{AllByRecursion}
+use Rattle.std.proofs.Common.{◌≡◌, ◌≢◌, ℕ, suc, ◌+◌, ◌-◌, ◌<◌, ◌==◌, Bool, true, false, cond, List, [], ◌∷◌, refl, sym, ap, ◌∙◌, inl, inr, arith}
 use Rattle.std.proofs.lemmas.Bool.{cases_eq, eq-eqb, eqb-true}
 use mathlib.Core.Bool.{false≢true}
 use Rattle.std.proofs.lemmas.Bool.Decides.{nat_tests}
 use Rattle.std.proofs.lemmas.Nat.Bits.{bit_at-lt}
-use Rattle.mp_cells.specs.PageView.{PageView, bit_of}
-use Rattle.mp_tree.specs.Planning.{clear_from, clear_pages, IsNextClear}
+use Rattle.mp_cells.specs.PageView.{bit_of}
+use Rattle.mp_tree.specs.Planning.{clear_from}
 
 pub clear_none : (from : ℕ) (bits : List ℕ) → clear_from 0 from bits ≡ []
 unfolding clear_from

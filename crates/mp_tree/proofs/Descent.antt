@@ -1,6 +1,5 @@
 -- A search from the root: where it is after some levels, and where it ends.
-use Rattle.std.proofs.Common.{◌≡◌, ◌≢◌, ℕ, zero, suc, ◌+◌, ◌<◌, ◌≤◌, ◌&&◌, nat_le, nat_lt, Bool, List, [], ◌∷◌, ◌++◌, length, filter, Option, Some, refl, sym, ap, subst, ◌∙◌, inl, inr, ◌⊎◌, arith}
-use Rattle.std.specs.List.{AllByRecursion}
+use Rattle.std.proofs.Common.{◌≡◌, ◌≢◌, ℕ, zero, suc, ◌+◌, ◌<◌, ◌≤◌, ◌&&◌, nat_le, nat_lt, Bool, List, [], ◌∷◌, ◌++◌, filter, Option, Some, refl, sym, ap, subst, ◌∙◌, inl, inr, ◌⊎◌, arith}
 use Rattle.std.proofs.lemmas.Bool.Decides.{nat_tests}
 use Rattle.std.proofs.lemmas.List.{append-nil}
 use Rattle.std.proofs.lemmas.List.Elements.{filter-append}
@@ -13,7 +12,6 @@ use Rattle.mp_tree.specs.Searches.{rows_above, leaf_for, AreLeafRows, IsLeafFor,
 use Rattle.mp_page.specs.Pagers.{Handed}
 use Rattle.mp_cells.specs.declared.kinds.Kind.TheVariants.{Leaf, Inner}
 use Rattle.mp_cells.specs.declared.children.Child.{Child}
-use Rattle.mp_cells.specs.PageView.{IsPage}
 use Rattle.mp_cells.specs.Trees.{PageMap, top, root, Fits, below, Levels, low_of, IsTree, rows_under, child_at, leaf_at}
 use Rattle.mp_cells.proofs.TreeSearch.{InRange, below_in_range, IsAt, goes_down, fits_parts, tree_found}
 use Rattle.mp_plans.proofs.Heights.{height_most, root_range}
@@ -124,12 +122,14 @@ are_leaf_rows pages height low tree lt =
     let facts = leaf_facts (pages number) (tree.sound number found.range) found.kind in
     let between : Row → Bool = λ row. nat_le low row.key && nat_lt row.key (pages number).high in
     let parts : filter between (rows_under pages place.before ++ ((pages number).rows ++ rows_under pages place.behind)) ≡ rows_above low (pages number).rows =
-        filter-append between (rows_under pages place.before) ((pages number).rows ++ rows_under pages place.behind)
-        ∙ ap (λ (xs : List Row). filter between (rows_under pages place.before) ++ xs) (filter-append between (pages number).rows (rows_under pages place.behind))
-        ∙ rw (front_none low (low_of place.before place.child.low) (pages number).low (pages number).high (rows_under pages place.before) place.front found.from,
-              middle_all low (pages number).low (pages number).high (pages number).rows facts.rises,
-              back_none low (low_of place.behind top) (pages number).high top (rows_under pages place.behind) place.back (omega (arith, place.next)),
-              append-nil (rows_above low (pages number).rows)) refl in
+    filter-append between (rows_under pages place.before) ((pages number).rows ++ rows_under pages place.behind)
+    ∙ ap (λ (xs : List Row). filter between (rows_under pages place.before) ++ xs) (filter-append between (pages number).rows (rows_under pages place.behind))
+    ∙ rw (
+      front_none low (low_of place.before place.child.low) (pages number).low (pages number).high (rows_under pages place.before) place.front found.from,
+      middle_all low (pages number).low (pages number).high (pages number).rows facts.rises,
+      back_none low (low_of place.behind top) (pages number).high top (rows_under pages place.behind) place.back (omega (arith, place.next)),
+      append-nil (rows_above low (pages number).rows),
+    ) refl in
     record {
       rows = refl;
       next = refl;

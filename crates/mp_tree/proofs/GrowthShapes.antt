@@ -1,7 +1,7 @@
 -- How a tree grows, as the search finds it, and what that needs of the pages.
-use Rattle.std.proofs.Common.{◌≡◌, ◌≢◌, ℕ, zero, suc, ◌+◌, ◌<◌, ◌≤◌, ◌==◌, ◌||◌, nat_lt, Bool, true, false, cond, List, [], ◌∷◌, length, Option, Some, None, refl, sym, ap, subst, ◌∙◌, inl, inr, arith}
+use Rattle.std.proofs.Common.{◌≡◌, ◌≢◌, ℕ, zero, suc, ◌<◌, ◌≤◌, ◌==◌, ◌||◌, nat_lt, Bool, true, false, cond, List, [], ◌∷◌, length, Option, Some, None, refl, sym, ap, subst, ◌∙◌, inl, inr, arith}
 use mathlib.Core.Bool.{false≢true}
-use Rattle.std.proofs.lemmas.Bool.{cases_eq, cases_lt, lt-ltb, ltb-true}
+use Rattle.std.proofs.lemmas.Bool.{cases_eq, ltb-true}
 use Rattle.std.proofs.lemmas.Bool.Decides.{nat_tests}
 use Rattle.mp_cells.specs.declared.kinds.Kind.TheVariants.{Leaf, Inner}
 use Rattle.mp_cells.specs.declared.children.Child.{Child}
@@ -10,7 +10,7 @@ use Rattle.mp_cells.specs.Children.{IsChild}
 use Rattle.mp_cells.proofs.ChildSpelling.{child_page_range}
 use Rattle.mp_cells.specs.PageView.{PageView, IsPage}
 use Rattle.mp_cells.specs.Changes.{holds_row}
-use Rattle.mp_cells.specs.Trees.{PageMap, top, root, IsTree, uses, one_if, child_from, child_at, leaf_at}
+use Rattle.mp_cells.specs.Trees.{PageMap, top, root, IsTree, uses, child_from, child_at, leaf_at}
 use Rattle.mp_cells.proofs.TreeSearch.{tree_found}
 use Rattle.mp_plans.specs.Growth as grows
 use Rattle.mp_plans.specs.Growth.{growth_of, has_place}
@@ -19,11 +19,10 @@ use Rattle.mp_plans.proofs.Heights.{numbers, height_most, root_has_room}
 use Rattle.mp_plans.proofs.Spare.{leaf_facts, inner_facts, content_of}
 use Rattle.mp_plans.proofs.Growths.{IsLeafOf, child_not_root}
 use Rattle.mp_plans.proofs.WritePlans.{GrowthFits, IsParent, IsFullLeaf}
-use Rattle.mp_tree.specs.declared.growth.Growth.{Growth}
-use Rattle.mp_tree.specs.declared.growth.Growth.TheVariants.{Stays, NewRoot, Leaf as UnderParent, Inner as WithParent, Higher}
+use Rattle.mp_tree.specs.declared.growth.Growth.TheVariants.{Leaf as UnderParent, Inner as WithParent, Higher}
 use Rattle.mp_tree.specs.declared.search.Stop.{Stop}
 use Rattle.mp_tree.specs.Planning.{stop_on, shape_of, growth_under}
-use Rattle.mp_tree.proofs.Descent.{Reached, begins, goes_on, inner_on_path}
+use Rattle.mp_tree.proofs.Descent.{begins, goes_on, inner_on_path}
 use Rattle.mp_tree.proofs.PageFacts.{some_child}
 
 -- the child that a search takes is one of the children

@@ -1,21 +1,17 @@
 -- The lowest clear pages, one behind the other.
-use Rattle.std.proofs.Common.{◌≡◌, ◌≢◌, ℕ, zero, suc, ◌+◌, ◌-◌, ◌<◌, ◌≤◌, ◌==◌, nat_lt, Bool, true, false, cond, List, [], ◌∷◌, ◌++◌, length, take, Option, Some, None, IsSome, IfSome, Result, Ok, Err, IfOk, refl, sym, ap, subst, ◌∙◌, inl, inr, arith}
+use Rattle.std.proofs.Common.{◌≡◌, ◌≢◌, ℕ, zero, suc, ◌+◌, ◌-◌, ◌<◌, ◌≤◌, ◌==◌, nat_lt, Bool, true, cond, List, [], ◌∷◌, length, take, Option, Some, None, IsSome, IfSome, refl, sym, ap, subst, ◌∙◌, inl, inr, arith}
 use Rattle.std.specs.List.{AllByRecursion}
 use mathlib.Core.Bool.{false≢true}
 use Rattle.std.proofs.lemmas.Bool.{cases_lt, cases_eq, lt-ltb}
-use Rattle.std.proofs.lemmas.Bool.Decides.{nat_tests}
-use Rattle.std.proofs.lemmas.Nat.Bits.{bit_at-lt}
-use Rattle.mp_cells.specs.declared.kinds.Kind.TheVariants.{Meta}
 use Rattle.mp_cells.specs.PageView.{PageView, bit_of}
-use Rattle.mp_cells.specs.Trees.{PageMap, IsTree, uses, one_if, tree_pages}
-use Rattle.mp_plans.specs.Growth.{Growth, stays, new_root, leaf, inner, higher, pages_needed, new_pages}
+use Rattle.mp_cells.specs.Trees.{PageMap, IsTree, uses, tree_pages}
+use Rattle.mp_plans.specs.Growth.{Growth, stays, new_root, leaf, inner, higher, pages_needed}
 use Rattle.mp_plans.proofs.Uses.{one_if-same, one_if-other, one_if-most}
 use Rattle.mp_plans.proofs.Taking.{IsClear}
 use Rattle.mp_tree.specs.declared.new_pages.New.{New}
-use Rattle.mp_tree.specs.declared.write.PlanRefusal.{PlanRefusal}
 use Rattle.mp_tree.specs.Planning.{clear_from, clear_pages, IsNextClear}
 use Rattle.mp_tree.specs.Writing.{IsFront, IsNew, HasNew, needed_for}
-use Rattle.mp_tree.proofs.ClearPages.{clear_none, clear_here, clear_passed, clear_first, clear_more}
+use Rattle.mp_tree.proofs.ClearPages.{clear_none, clear_here, clear_first, clear_more}
 
 pub next_is : (from n next : ℕ) (bits : List ℕ) → IsNextClear from n bits → next ≡ cond (nat_lt n 4096) (n + 1) n → 1 ≤ length (clear_from (4096 - from) from bits) → clear_from (4096 - from) from bits ≡ n ∷ clear_from (4096 - next) next bits
 next_is from n next bits h is some = elim (cases_lt n 4096) [
@@ -85,13 +81,14 @@ clear_kept meta (suc count) from bound set0 set1 (suc k) = elim (cases_eq (bit_o
       let rest = clear_kept meta count (from + 1) (omega arith) set0 set1 k in
       let not_0 : from ≢ 0 = λ (e : from ≡ 0). set0 (ap (bit_of meta.bits) (sym e) ∙ clear) in
       let not_1 : from ≢ 1 = λ (e : from ≡ 1). set1 (ap (bit_of meta.bits) (sym e) ∙ clear) in
-      subst (λ (xs : List ℕ). AllByRecursion (IsClear meta) (take (suc k) xs) × ((n : ℕ) → uses n (take (suc k) xs) ≤ 1) × ((n : ℕ) → n < from → uses n (take (suc k) xs) ≡ 0)) (sym (clear_first count from meta.bits clear))
-      (((omega (arith, not_0, not_1), omega arith, clear), rest.0),
-       λ n. elim (cases_eq from n) [
-         | inl same ↦ omega (arith, one_if-most (from == n), rest.2 n (omega (arith, same)))
-         | inr apart ↦ omega (arith, one_if-other from n apart, rest.1 n)
-       ],
-       λ n lt. let apart : from ≢ n = λ (e : from ≡ n). absurd (omega (arith, lt, e)) in omega (arith, one_if-other from n apart, rest.2 n (omega (arith, lt))))
+      subst (λ (xs : List ℕ). AllByRecursion (IsClear meta) (take (suc k) xs) × ((n : ℕ) → uses n (take (suc k) xs) ≤ 1) × ((n : ℕ) → n < from → uses n (take (suc k) xs) ≡ 0)) (sym (clear_first count from meta.bits clear)) (
+        ((omega (arith, not_0, not_1), omega arith, clear), rest.0),
+        λ n. elim (cases_eq from n) [
+          | inl same ↦ omega (arith, one_if-most (from == n), rest.2 n (omega (arith, same)))
+          | inr apart ↦ omega (arith, one_if-other from n apart, rest.1 n)
+        ],
+        λ n lt. let apart : from ≢ n = λ (e : from ≡ n). absurd (omega (arith, lt, e)) in omega (arith, one_if-other from n apart, rest.2 n (omega (arith, lt))),
+      )
   | inr set ↦
       let rest = clear_kept meta count (from + 1) (omega arith) set0 set1 (suc k) in
       subst (λ (xs : List ℕ). AllByRecursion (IsClear meta) (take (suc k) xs) × ((n : ℕ) → uses n (take (suc k) xs) ≤ 1) × ((n : ℕ) → n < from → uses n (take (suc k) xs) ≡ 0)) (sym (clear_more count from meta.bits set))

@@ -1,28 +1,24 @@
 -- What a write reads and takes makes its plan the plan of a write.
-use Rattle.std.proofs.Common.{◌≡◌, ◌≢◌, ℕ, zero, suc, ◌+◌, ◌^◌, ◌<◌, ◌≤◌, ◌&&◌, nat_lt, nat_le, Bool, true, false, cond, List, [], ◌∷◌, ◌++◌, length, take, Option, Some, None, IsSome, IfSome, refl, sym, ap, subst, ◌∙◌, arith}
+use Rattle.std.proofs.Common.{◌≡◌, ℕ, ◌^◌, ◌<◌, ◌≤◌, nat_lt, Bool, true, false, cond, List, length, Option, Some, None, IfSome, refl, sym, ap, subst, ◌∙◌, arith}
 use Rattle.std.specs.Prelude.{is_none}
-use mathlib.Core.Bool.{false≢true}
 use Rattle.std.specs.List.{AllByRecursion}
 use Rattle.std.proofs.lemmas.Bool.{and_from, le-leb, lt-ltb, ltb-true}
 use Rattle.mp_model.specs.Values.{is_value}
 use Rattle.mp_cells.specs.declared.kinds.Kind.TheVariants.{Undo}
 use Rattle.mp_cells.specs.declared.rows.Link.{Link}
-use Rattle.mp_cells.specs.declared.rows.Row.{Row}
-use Rattle.mp_cells.specs.PageView.{PageView}
-use Rattle.mp_cells.specs.Rows.{IsRow, is_writer, is_link}
-use Rattle.mp_cells.specs.Trees.{PageMap, top, root, IsTree, leaf_at, uses}
+use Rattle.mp_cells.specs.Rows.{IsRow, is_writer}
+use Rattle.mp_cells.specs.Trees.{PageMap, root, IsTree, leaf_at, uses}
 use Rattle.mp_cells.proofs.TreeSearch.{tree_found}
 use Rattle.mp_plans.specs.Plans.{Plan}
-use Rattle.mp_plans.specs.Growth.{Growth, growth_of, new_pages, write_plan}
+use Rattle.mp_plans.specs.Growth.{Growth, growth_of, write_plan}
 use Rattle.mp_plans.specs.Writes.{WellPut}
 use Rattle.mp_plans.proofs.Taking.{IsClear}
 use Rattle.mp_plans.proofs.WritePlans.{WriteFits, well_written}
 use Rattle.mp_tree.specs.declared.search.Stop.{Stop}
 use Rattle.mp_tree.specs.declared.growth.Reading.{Reading}
-use Rattle.mp_tree.specs.declared.growth.Growth as found
 use Rattle.mp_tree.specs.declared.new_pages.New.{New}
 use Rattle.mp_tree.specs.declared.write.Write.{Write}
-use Rattle.mp_tree.specs.Planning.{stop_on, shape_of, HasPages, HasUndo, undo_place, IsReading, clear_pages}
+use Rattle.mp_tree.specs.Planning.{shape_of, HasPages, HasUndo, undo_place, IsReading}
 use Rattle.mp_tree.specs.Writing.{HasNew, needed_for, IsWrite, link_of, row_of, kind_of}
 use Rattle.mp_tree.proofs.GrowthShapes.{fits_growth}
 use Rattle.mp_tree.proofs.NewPages.{clear_ones}
@@ -99,10 +95,10 @@ is_write given height write undo_page reading new plan tree undo range is has ke
     let has2 : HasNew given (is_none place) growth new = subst (λ (g : Growth). HasNew given (is_none place) g new) is.growth has1 in
     let link = link_of place new.undo in
     let exact : plan ≡ write_plan growth m (is_none place) link.page given new.first new.second new.third (row_of write link) =
-        made page is.pages
-        ∙ ap (λ (g : Growth). write_plan g reading.leaf.number (is_none reading.place) (link_of reading.place new.undo).page given new.first new.second new.third (row_of write (link_of reading.place new.undo))) is.growth
-        ∙ ap (λ (n : ℕ). write_plan growth n (is_none reading.place) (link_of reading.place new.undo).page given new.first new.second new.third (row_of write (link_of reading.place new.undo))) number
-        ∙ ap (λ (p : Option Link). write_plan growth m (is_none p) (link_of p new.undo).page given new.first new.second new.third (row_of write (link_of p new.undo))) is.place in
+    made page is.pages
+    ∙ ap (λ (g : Growth). write_plan g reading.leaf.number (is_none reading.place) (link_of reading.place new.undo).page given new.first new.second new.third (row_of write (link_of reading.place new.undo))) is.growth
+    ∙ ap (λ (n : ℕ). write_plan growth n (is_none reading.place) (link_of reading.place new.undo).page given new.first new.second new.third (row_of write (link_of reading.place new.undo))) number
+    ∙ ap (λ (p : Option Link). write_plan growth m (is_none p) (link_of p new.undo).page given new.first new.second new.third (row_of write (link_of p new.undo))) is.place in
     let fits = write_fits given height write place new tree (place_fits given undo_page undo range) has2 key value writer in
     record {
       kind_is = ap kind_of is.growth;

@@ -1,21 +1,16 @@
 -- What a write's plan is made of, and what it is.
-use Rattle.std.specs.Prelude.{◌≡◌, ◌≢◌, ℕ, zero, suc, ◌+◌, ◌-◌, ◌^◌, ◌<◌, ◌≤◌, ◌==◌, ◌&&◌, nat_le, nat_lt, min, Bool, true, false, List, [], ◌∷◌, ◌++◌, length, take, Option, Some, None, Result, Ok, Err, OnOk, IfOk, IfErr, IfSome, if◌then◌else◌}
-use Rattle.mp_model.specs.declared.waiting.NotYet.{NotYet}
-use Rattle.mp_cells.specs.declared.kinds.Kind.TheVariants.{Meta, Leaf, Inner, Undo}
+use Rattle.std.specs.Prelude.{◌≡◌, ℕ, zero, suc, ◌+◌, ◌-◌, ◌<◌, ◌≤◌, ◌==◌, nat_lt, List, [], ◌∷◌, length, Option, Some, None, if◌then◌else◌}
+use Rattle.mp_cells.specs.declared.kinds.Kind.TheVariants.{Leaf, Inner, Undo}
 use Rattle.mp_cells.specs.declared.rows.Link.{Link}
-use Rattle.mp_cells.specs.declared.rows.Row.{Row}
 use Rattle.mp_cells.specs.PageView.{PageView, IsPage, bit_of}
-use Rattle.mp_cells.specs.Trees.{PageMap, root, IsTree, leaf_at, child_at}
+use Rattle.mp_cells.specs.Trees.{PageMap, root, leaf_at, child_at}
 use Rattle.mp_page.specs.Pagers.{Handed}
-use Rattle.mp_plans.specs.Plans.{Plan}
 use Rattle.mp_plans.specs.Growth as grows
 use Rattle.mp_plans.specs.Growth.{growth_of, pages_needed, write_plan, new_pages}
-use Rattle.mp_plans.specs.Writes.{WellPut}
 use Rattle.mp_tree.specs.declared.search.Stop.{Stop}
 use Rattle.mp_tree.specs.declared.growth.Growth.{Growth}
 use Rattle.mp_tree.specs.declared.growth.Reading.{Reading}
 use Rattle.mp_tree.specs.declared.growth.Growth.TheVariants.{Stays, NewRoot, Leaf as UnderParent, Inner as WithParent, Higher}
-use Rattle.mp_tree.specs.Searches.{leaf_for}
 
 -- ---- the parent of a page
 

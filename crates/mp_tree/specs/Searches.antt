@@ -1,5 +1,5 @@
 -- What a search looks at and answers.
-use Rattle.std.specs.Prelude.{◌≡◌, ◌≢◌, ℕ, ◌+◌, ◌-◌, ◌^◌, ◌<◌, ◌≤◌, ◌&&◌, nat_le, nat_lt, min, List, filter, Option, Some, None, Result, OnOk, IfErr, IfSome}
+use Rattle.std.specs.Prelude.{◌≡◌, ◌≢◌, ℕ, ◌+◌, ◌-◌, ◌^◌, ◌<◌, ◌≤◌, ◌&&◌, nat_le, nat_lt, min, List, filter, Option, Some, Result, OnOk, IfErr, IfSome}
 use Rattle.mp_model.specs.declared.waiting.NotYet.{NotYet}
 use Rattle.mp_cells.specs.declared.kinds.Kind.TheVariants.{Leaf, Inner}
 use Rattle.mp_cells.specs.declared.rows.Row.{Row}

@@ -1,7 +1,6 @@
 -- The pages that a write takes, what its call does with the pager, and what its answers say.
 use Rattle.std.specs.Prelude.{◌≡◌, ℕ, ◌+◌, ◌-◌, ◌^◌, ◌<◌, ◌≤◌, min, Bool, List, [], ◌∷◌, ◌++◌, length, take, Option, Some, None, is_none, Result, OnOk, IfErr, if◌then◌else◌}
 use Rattle.mp_model.specs.declared.waiting.NotYet.{NotYet}
-use Rattle.mp_model.specs.declared.ids.TrxId.{TrxId}
 use Rattle.mp_cells.specs.declared.rows.Link.{Link}
 use Rattle.mp_cells.specs.declared.rows.Row.{Row}
 use Rattle.mp_cells.specs.PageView.{PageView}

@@ -12,13 +12,13 @@ ghost use Rattle.mp_tree.specs.Planning.{shape_of, HasPages, CanSplit, IsFullInn
 ghost use Rattle.mp_tree.specs.declared.growth.Growth.TheVariants.{Inner as WithParent, Higher};
 ghost use Rattle.mp_tree.specs.Writing.{link_of, row_of};
 
-use crate::growth::{Reading, Growth};
+use crate::growth::{Growth, Reading};
 use crate::halves::{
     inner_separator, leaf_separator, put_inner_parts, put_leaf_parts, put_root_inner_parts,
     put_root_leaf_parts,
 };
 use crate::leaf::row_in;
-use crate::new_pages::{is_fresh, New};
+use crate::new_pages::{New, is_fresh};
 use crate::plan::Plan;
 use crate::search::Stop;
 use crate::write::Write;

@@ -10,7 +10,7 @@ ghost use Rattle.mp_tree.specs.Searches.{Asks, IsLeafAt};
 ghost use Rattle.mp_tree.specs.Planning.{IsParentAt, stop_on, shape_of, growth_under, HasPages, CanSplit, HasUndo, undo_place, IsReading, IsSound};
 
 use crate::leaf::has_place;
-use crate::search::{leaf_for, look_at, stop_at, Look, Stop};
+use crate::search::{Look, Stop, leaf_for, look_at, stop_at};
 use mp_model::NotYet;
 use mp_page::{Kind, Link, Page, Pager};
 
@@ -143,7 +143,11 @@ fn place_of(number: u16, count: u16) -> Option<Link>
 }
 
 /// The page above another on the way to a key; none where the pages are no tree.
-pub(crate) fn parent_of<P: Pager>(pager: &mut P, key: u32, child: u16) -> Result<Option<Stop>, NotYet>
+pub(crate) fn parent_of<P: Pager>(
+    pager: &mut P,
+    key: u32,
+    child: u16,
+) -> Result<Option<Stop>, NotYet>
     requires { child ≢ 1 }
     ensures asks { Asks P.handed P.waits P.last P.follows pager.old pager.new result }
     ensures parent { IfOk result (λ found. IfSome found (IsParentAt (P.handed pager.new) key child)) }

@@ -14,5 +14,8 @@ mod write;
 
 pub use plan::Plan;
 pub use restore::plan_restore;
-pub use search::{find, rows_from, LeafRows};
-pub use write::{plan_write, PlanKind, PlanRefusal, Write};
+pub use search::{LeafRows, find, rows_from};
+pub use write::{PlanKind, PlanRefusal, Write, plan_write};
+
+#[cfg(test)]
+mod tests;

@@ -10,7 +10,7 @@ ghost use Rattle.mp_tree.specs.Planning.{shape_of, clear_pages};
 ghost use Rattle.mp_tree.specs.Writing.{AsksPlan, IsFront, IsNew, HasNew, IsFullFor, IsFullAnswer, needed_for};
 
 use crate::clear::{count_clear, next_clear};
-use crate::growth::{Reading, Growth};
+use crate::growth::{Growth, Reading};
 use crate::write::PlanRefusal;
 use mp_page::{Kind, Page, Pager};
 
@@ -36,7 +36,10 @@ impl New {
 
 /// The pages that a write takes. `Full` comes exactly where more are needed than are clear; none where page 0 isn't the
 /// meta page.
-pub(crate) fn pages_for<P: Pager>(pager: &mut P, reading: &Reading) -> Result<Option<New>, PlanRefusal>
+pub(crate) fn pages_for<P: Pager>(
+    pager: &mut P,
+    reading: &Reading,
+) -> Result<Option<New>, PlanRefusal>
     ensures asks { AsksPlan P.handed P.waits P.last P.follows pager.old pager.new result }
     ensures new { IfOk result (λ found. (pages : PageMap) → Extends pages (P.handed pager.new) → (pages 0).kind ≡ Meta → IsSome found × IfSome found (HasNew pages (is_none reading.now.place) (shape_of reading.now.growth))) }
     ensures full { IfErr result (λ refusal. (pages : PageMap) → Extends pages (P.handed pager.new) → IsFullFor pages (needed_for (is_none reading.now.place) (shape_of reading.now.growth)) refusal) }

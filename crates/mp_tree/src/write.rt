@@ -9,7 +9,7 @@ ghost use Rattle.mp_tree.specs.Planning.{shape_of, HasUndo, undo_place};
 ghost use Rattle.mp_tree.specs.Writing.{AsksPlan, IsFullFor, IsWrite, kind_of, needed_for};
 
 use crate::changes::put_write;
-use crate::growth::{reading_for, Growth};
+use crate::growth::{Growth, reading_for};
 use crate::new_pages::pages_for;
 use crate::plan::Plan;
 use mp_model::{NotYet, TrxId, Value};
@@ -38,10 +38,7 @@ pub enum PlanKind {
 #[derive(Clone, Copy, Debug, PartialEq, Eq)]
 pub enum PlanRefusal {
     /// More pages are needed than are clear.
-    Full {
-        needed: u32,
-        clear: u32,
-    },
+    Full { needed: u32, clear: u32 },
     /// The pager's answer.
     NotYet(NotYet),
 }

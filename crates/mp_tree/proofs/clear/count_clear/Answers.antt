@@ -1,5 +1,5 @@
 -- The page is clear, or is passed.
-use Rattle.std.proofs.Common.{◌≡◌, ℕ, ◌+◌, ◌-◌, List, length, sym, ap, ◌∙◌, arith}
+use Rattle.std.proofs.Common.{◌≡◌, ℕ, ◌-◌, List, length, sym, ap, ◌∙◌, arith}
 use Rattle.mp_tree.specs.Planning.{clear_from}
 use Rattle.mp_tree.proofs.ClearPages.{clear_none, clear_passed, clear_here, not_set, is_set}
 use Rattle.mp_tree.proofs.clear.count_clear.Goals.{then-not-taken, else-not-taken}

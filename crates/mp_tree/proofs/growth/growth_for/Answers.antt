@@ -1,7 +1,6 @@
 -- The parent is the page above the leaf, and shows how the tree grows.
-use Rattle.std.proofs.Common.{◌≡◌, refl, sym, ap, ◌∙◌}
+use Rattle.std.proofs.Common.{refl, sym, ap, ◌∙◌}
 use Rattle.mp_tree.specs.declared.search.Stop.{Stop}
-use Rattle.mp_tree.specs.declared.growth.Growth.{Growth}
 use Rattle.mp_tree.specs.Planning.{shape_of, growth_under}
 use Rattle.mp_tree.proofs.GrowthShapes.{parent_shape, same_stop, none_found}
 use Rattle.mp_tree.proofs.growth.growth_for.Goals as goal

@@ -1,12 +1,9 @@
 -- The search goes down a level, or the page above is found.
-use Rattle.std.proofs.Common.{◌≡◌, ◌≢◌, ℕ, suc, ◌+◌, Some, refl, sym, ap, subst, ◌∙◌, arith}
+use Rattle.std.proofs.Common.{◌≡◌, ℕ, suc, ◌+◌, refl, sym, ap, subst, ◌∙◌, arith}
 use Rattle.mp_cells.specs.declared.children.Child.{Child}
 use Rattle.mp_cells.specs.declared.kinds.Kind.TheVariants.{Leaf, Inner}
 use Rattle.mp_cells.specs.PageView.{PageView}
-use Rattle.mp_cells.specs.Trees.{PageMap, child_at, leaf_at, root}
-use Rattle.mp_cells.proofs.TreeSearch.{tree_found}
-use Rattle.mp_tree.specs.Planning.{stop_on}
-use Rattle.mp_tree.specs.declared.search.Stop.{Stop}
+use Rattle.mp_cells.specs.Trees.{child_at, leaf_at, root}
 use Rattle.mp_tree.proofs.Descent.{Reached, begins, goes_on, stops, not_lost, not_deep, leaf_at-more, at_leaf}
 use Rattle.mp_tree.proofs.Asking.{extends_before, asked_none, asked_more, asked_page, asked_all, asked_wait}
 use Rattle.mp_tree.proofs.growth.parent_of.Goals as goal

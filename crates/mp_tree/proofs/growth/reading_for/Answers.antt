@@ -1,9 +1,8 @@
 -- The leaf, then how the tree grows, then the place of the undo record.
-use Rattle.std.proofs.Common.{◌≡◌, ℕ, Option, Some, IsSome, IfSome, refl, sym, ap, subst, ◌∙◌}
-use Rattle.mp_cells.specs.Trees.{PageMap, leaf_at, root}
+use Rattle.std.proofs.Common.{◌≡◌, Option, IfSome, refl, subst}
+use Rattle.mp_cells.specs.Trees.{PageMap}
 use Rattle.mp_page.specs.Pagers.{Extends}
 use Rattle.mp_plans.specs.Growth.{growth_of}
-use Rattle.mp_tree.specs.declared.search.Stop.{Stop}
 use Rattle.mp_tree.specs.declared.growth.Growth.{Growth}
 use Rattle.mp_tree.specs.Planning.{stop_on, shape_of, HasPages}
 use Rattle.mp_tree.proofs.Asking.{extends_before, asked_more, asked_all, asks_ok, asks_wait}
@@ -36,10 +35,12 @@ returns-in-Ok-clause-reading g c = λ pages e undo height tree.
     let shape = c.in-Ok-Some-growth_for.ensures.growth pages e2 height tree leaf in
     let P : Option Growth → Type 0 = λ f. IfSome f (λ growth. shape_of growth ≡ growth_of pages height c.args.key) in
     let Q : Option Growth → Type 0 = λ f. IfSome f (λ growth. (m : PageMap) → Extends m (g.P.Pager.handed c.growth_for.new.pager) → HasPages m growth) in
-    let kept = subst Q c.in-Ok-Some-growth_for.field-0-is c.in-Ok-Some-growth_for.ensures.pages in
-    (refl, record {
-      leaf = leaf;
-      growth = subst P c.in-Ok-Some-growth_for.field-0-is shape.1;
-      place = c.in-Ok.ensures.place pages e undo;
-      pages = kept pages e2;
-    })
+    let kept = subst Q c.in-Ok-Some-growth_for.field-0-is c.in-Ok-Some-growth_for.ensures.pages in (
+      refl,
+      record {
+        leaf = leaf;
+        growth = subst P c.in-Ok-Some-growth_for.field-0-is shape.1;
+        place = c.in-Ok.ensures.place pages e undo;
+        pages = kept pages e2;
+      },
+    )

@@ -4,6 +4,7 @@ use Rattle.mp_tree.proofs.PageFacts.{taken_next}
 use Rattle.mp_tree.proofs.halves.rows_of.Goals as goal
 
 pub loop-i-preserved : goal.loop-i-preserved
-loop-i-preserved c =
-    (c.put.ensures ∙ ap (λ xs. xs ++ c.row.result ∷ []) c.loop-i.invariant.0 ∙ taken_next c.args.page.now.rows c.args.from c.loop-i.i c.row.result c.loop-i.invariant.1 c.row.ensures.value,
-     omega (arith, c.loop-i.invariant.1))
+loop-i-preserved c = (
+  c.put.ensures ∙ ap (λ xs. xs ++ c.row.result ∷ []) c.loop-i.invariant.0 ∙ taken_next c.args.page.now.rows c.args.from c.loop-i.i c.row.result c.loop-i.invariant.1 c.row.ensures.value,
+  omega (arith, c.loop-i.invariant.1),
+)

@@ -1,6 +1,5 @@
 -- The row has the key, or the row is among those behind it.
 use Rattle.std.proofs.Common.{sym, ◌∙◌, arith}
-use Rattle.std.proofs.lemmas.Bool.Decides.{nat_tests}
 use Rattle.mp_tree.proofs.PageFacts.{row_here, row_later}
 use Rattle.mp_tree.proofs.leaf.row_in.Goals as goal
 

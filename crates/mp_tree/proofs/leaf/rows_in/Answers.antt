@@ -1,5 +1,5 @@
 -- One row more, or the row is passed.
-use Rattle.std.proofs.Common.{◌+◌, ◌∷◌, [], ◌++◌, length, drop, sym, ap, ◌∙◌, arith}
+use Rattle.std.proofs.Common.{◌+◌, ◌∷◌, [], ◌++◌, drop, sym, ap, ◌∙◌, arith}
 use Rattle.std.proofs.lemmas.List.{append_assoc, length_push}
 use Rattle.mp_tree.specs.Searches.{rows_above}
 use Rattle.mp_tree.proofs.PageFacts.{row_kept, row_passed}

@@ -1,6 +1,4 @@
 -- The undo page first.
-use Rattle.std.proofs.Common.{◌≡◌, true, sym, subst}
-use Rattle.mp_tree.specs.Writing.{IsNew}
 use Rattle.mp_tree.proofs.NewPages.{fresh_first}
 use Rattle.mp_tree.proofs.new_pages.new_pages.Goals as goal
 

@@ -1,11 +1,8 @@
 -- The search goes down a level, or ends.
-use Rattle.std.proofs.Common.{◌≡◌, ℕ, ◌+◌, Some, refl, sym, ap, subst, ◌∙◌, arith}
-use Rattle.mp_cells.specs.declared.children.Child.{Child}
-use Rattle.mp_cells.specs.declared.kinds.Kind.{Kind}
+use Rattle.std.proofs.Common.{◌≡◌, ℕ, ◌+◌, refl, sym, ap, subst, ◌∙◌, arith}
 use Rattle.mp_cells.specs.declared.kinds.Kind.TheVariants.{Leaf, Inner}
 use Rattle.mp_cells.specs.PageView.{PageView}
-use Rattle.mp_cells.specs.Trees.{PageMap, child_at, leaf_at, root}
-use Rattle.mp_tree.specs.declared.search.Stop.{Stop}
+use Rattle.mp_cells.specs.Trees.{child_at, leaf_at, root}
 use Rattle.mp_tree.proofs.Descent.{Reached, begins, goes_on, stops, not_lost, not_deep}
 use Rattle.mp_tree.proofs.Asking.{extends_before, asked_none, asked_more, asked_page, asked_all, asked_wait}
 use Rattle.mp_tree.proofs.search.leaf_for.Goals as goal

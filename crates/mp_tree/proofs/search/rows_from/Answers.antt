@@ -1,8 +1,7 @@
 -- The leaf's rows from the key on, and its fence.
-use Rattle.std.proofs.Common.{◌≡◌, ap, subst, sym, ◌∙◌, arith}
+use Rattle.std.proofs.Common.{◌≡◌, ap, ◌∙◌, arith}
 use Rattle.mp_cells.specs.PageView.{PageView}
-use Rattle.mp_tree.specs.Searches.{rows_above, leaf_for, AreLeafRows}
-use Rattle.mp_tree.specs.declared.search.LeafRows.{LeafRows}
+use Rattle.mp_tree.specs.Searches.{rows_above, leaf_for}
 use Rattle.mp_tree.proofs.Descent.{found_page, are_leaf_rows}
 use Rattle.mp_tree.proofs.search.rows_from.Goals as goal
 

@@ -1,16 +1,14 @@
 -- The reading is that of the tree, and so is the plan.
-use Rattle.std.proofs.Common.{◌≡◌, Option, Some, None, IsSome, IfSome, Bool, false, true, ℕ, refl, sym, ap, subst, ◌∙◌, arith}
+use Rattle.std.proofs.Common.{◌≡◌, Option, Some, None, IsSome, IfSome, sym, subst, arith}
 use Rattle.std.specs.Prelude.{is_none}
 use mathlib.Core.Bool.{false≢true}
 use Rattle.mp_cells.specs.declared.rows.Link.{Link}
-use Rattle.mp_cells.specs.Trees.{PageMap, IsTree}
-use Rattle.mp_page.specs.Pagers.{Extends}
-use Rattle.mp_plans.specs.Growth.{Growth, growth_of}
+use Rattle.mp_plans.specs.Growth.{Growth}
 use Rattle.mp_tree.specs.declared.growth.Reading.{Reading}
 use Rattle.mp_tree.specs.declared.new_pages.New.{New}
 use Rattle.mp_tree.specs.declared.write.PlanKind.{PlanKind}
 use Rattle.mp_tree.specs.Planning.{shape_of, undo_place, IsReading}
-use Rattle.mp_tree.specs.Writing.{HasNew, IsWrite, IsFullFor, needed_for, kind_of}
+use Rattle.mp_tree.specs.Writing.{HasNew, IsWrite, IsFullFor, needed_for}
 use Rattle.mp_tree.proofs.Asking.{extends_before}
 use Rattle.mp_tree.proofs.PlanWrite.{is_write}
 use Rattle.mp_tree.proofs.write.plan_write.Goals as goal

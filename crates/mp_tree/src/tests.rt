@@ -1,0 +1,203 @@
+ghost use Rattle.std.specs.Prelude.{IsTrue};
+ghost use Rattle.mp_cells.specs.Rows.{is_writer, IsRow};
+
+use super::*;
+use mp_model::{NotYet, TrxId, Value};
+use mp_page::{Change, Page, Pager, Row, read_page};
+use std::test::*;
+
+// Pages 0, 1 and 2, and blank pages behind them.
+#[derive(Debug, Drop)]
+struct ThreePages {
+    meta: Page,
+    root: Page,
+    undo: Page,
+    blank: Page,
+}
+
+impl Pager for ThreePages {
+    ghost use Rattle.std.specs.Prelude.{◌≡◌, ◌==◌, ℕ, Some, refl, if◌then◌else◌};
+    ghost use Rattle.std.proofs.Common.{◌∙◌};
+    ghost use Rattle.mp_model.specs.declared.waiting.WordKind.TheVariants.{Lock};
+
+    ghost handed = { λ p n. Some (if n == 0 then p.meta else (if n == 1 then p.root else (if n == 2 then p.undo else p.blank))) };
+
+    ghost waits = { λ p. 0 };
+
+    ghost last = { λ p. record { of = Lock; at = 0; seen = 0 } };
+
+    ghost follows = { λ p q. p ≡ q };
+
+    ghost follows_self = { λ p. refl };
+
+    ghost follows_on = { λ p q r h k. h ∙ k };
+
+    fn page(&mut self, number: u16) -> Result<&Page, NotYet> {
+        if number == 0 {
+            Ok(&self.meta)
+        } else if number == 1 {
+            Ok(&self.root)
+        } else if number == 2 {
+            Ok(&self.undo)
+        } else {
+            Ok(&self.blank)
+        }
+    }
+}
+
+// The bytes of a page of this kind with 15 gone rows, of keys 1 to 15.
+fn full_page(kind: u8) -> [u8; 1024] {
+    let mut bytes = [0; 1024];
+    bytes[0] = kind;
+    bytes[1] = 1;
+    bytes[2] = 15;
+    for i in 0..15usize {
+        bytes[32 + 64 * i] = i as u8 + 1;
+    }
+    bytes
+}
+
+// The root is a full leaf, and page 2 a full undo page; so many bytes of the meta page's bits are ones, after the first.
+fn worked_tree(ones: usize) -> Option<ThreePages> {
+    let mut meta = [0; 1024];
+    meta[0] = 1;
+    meta[1] = 1;
+    meta[32] = 7;
+    let mut leaf = full_page(2);
+    leaf[28] = 1;
+    let undo = full_page(4);
+    set_ones(&mut meta, ones);
+    match (read_page(&meta), read_page(&leaf), read_page(&undo)) {
+        (Ok(meta), Ok(root), Ok(undo)) => Some(ThreePages {
+            meta,
+            root,
+            undo,
+            blank: Page::blank(),
+        }),
+        _ => None,
+    }
+}
+
+// With ones, all pages but 3 and 4 are taken.
+fn set_ones(meta: &mut [u8; 1024], ones: usize) {
+    meta[2] = 3;
+    if ones == 0 {
+        return;
+    }
+    meta[2] = 0xfe;
+    meta[3] = 0x0f;
+    meta[32] = 0xe7;
+    for i in 33..544usize {
+        meta[i] = 0xff;
+    }
+}
+
+// A change in short: its name, two numbers and a count of cells.
+fn outline(change: &Change) -> (&'static str, u64, u64, usize) {
+    match change {
+        Change::MakeLeaf { low, high, rows } => ("leaf", *low, *high, rows.len()),
+        Change::MakeInner {
+            low,
+            high,
+            children,
+        } => ("inner", *low, *high, children.len()),
+        Change::MakeUndo => ("undo page", 0, 0, 0),
+        Change::PutRow { row } => ("row", u64::from(row.key), 0, 0),
+        Change::RestoreRow { row } => ("restore", u64::from(row.key), 0, 0),
+        Change::Cut { from } => ("cut", u64::from(*from), 0, 0),
+        Change::PutChild { child } => ("child", u64::from(child.low), u64::from(child.page), 0),
+        Change::PutUndo { row } => ("undo", u64::from(row.key), 0, 0),
+        Change::TakePage { page } => ("take", u64::from(*page), 0, 0),
+    }
+}
+
+fn write_of(key: u32) -> Write
+    ensures { IsTrue (is_writer result.writer) }
+{
+    Write {
+        key,
+        value: Value::read(b"a"),
+        writer: TrxId {
+            node: 1,
+            slot: 0,
+            version: 1,
+        },
+    }
+}
+
+const TOP: u64 = 1 << 32;
+
+#[test]
+fn the_worked_plan(rt: HostRuntime) -> Result<(), Fail> {
+    let mut pager = worked_tree(0).ok_or("three pages")?;
+    let mut plan = Plan::new(rt.alloc()).ok().ok_or("there is memory")?;
+    let write = write_of(16);
+    let kind = plan_write(&mut pager, &write, Some(2), &mut plan);
+    assert_eq!(rt; kind, Ok(PlanKind::RootSplit));
+    assert_eq!(rt; plan.len(), 9);
+    let expected = [
+        (0, ("take", 3, 0, 0)),
+        (0, ("take", 4, 0, 0)),
+        (0, ("take", 5, 0, 0)),
+        (3, ("undo page", 0, 0, 0)),
+        (4, ("leaf", 0, 9, 8)),
+        (5, ("leaf", 9, TOP, 7)),
+        (1, ("inner", 0, TOP, 2)),
+        (3, ("undo", 16, 0, 0)),
+        (5, ("row", 16, 0, 0)),
+    ];
+    for (i, expected) in expected.iter().enumerate() {
+        if i < plan.len() {
+            assert_eq!(rt; (plan.page(i), outline(plan.change(i))), *expected);
+        }
+    }
+    Ok(())
+}
+
+#[test]
+fn two_clear_pages_are_too_few(rt: HostRuntime) -> Result<(), Fail> {
+    let mut pager = worked_tree(511).ok_or("three pages")?;
+    let mut plan = Plan::new(rt.alloc()).ok().ok_or("there is memory")?;
+    let write = write_of(16);
+    let refusal = plan_write(&mut pager, &write, Some(2), &mut plan);
+    assert_eq!(rt;
+        refusal,
+        Err(PlanRefusal::Full {
+            needed: 3,
+            clear: 2,
+        })
+    );
+    assert_eq!(rt; plan.len(), 0);
+    // A key that is there needs a fresh undo page alone.
+    let kind = plan_write(&mut pager, &write_of(15), Some(2), &mut plan);
+    assert_eq!(rt; kind, Ok(PlanKind::InPlace));
+    assert_eq!(rt; plan.len(), 4);
+    Ok(())
+}
+
+#[test]
+fn searches_and_a_restore(rt: HostRuntime) -> Result<(), Fail> {
+    let mut pager = worked_tree(0).ok_or("three pages")?;
+    let found = find(&mut pager, 7).ok().ok_or("no wait")?;
+    let row = found.ok_or("a row")?;
+    assert_eq!(rt; row.key, 7);
+    assert_eq!(rt; find(&mut pager, 16), Ok(None));
+    let rows = rows_from(&mut pager, 14).ok().ok_or("no wait")?;
+    assert_eq!(rt; rows.rows.len(), 2);
+    assert_eq!(rt; rows.next, TOP);
+    let mut plan = Plan::new(rt.alloc()).ok().ok_or("there is memory")?;
+    assert_eq!(rt; plan_restore(&mut pager, &gone(7), &mut plan), Ok(()));
+    assert_eq!(rt; plan.len(), 1);
+    Ok(())
+}
+
+fn gone(key: u32) -> Row
+    ensures { IsRow result }
+{
+    Row {
+        key,
+        value: None,
+        writer: None,
+        link: None,
+    }
+}
