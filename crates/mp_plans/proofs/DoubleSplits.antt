@@ -1,5 +1,9 @@
 -- A leaf is split and its parent too: the parent first, then the leaf under the part that takes it. The plan has them in
 -- another order, which is the same page by page.
+use Rattle.mp_plans.specs.Fitting.{IsLeafOf}
+use Rattle.mp_cells.specs.Mtrs.{IsChange}
+use Rattle.mp_plans.specs.Writes.{IsStep}
+use Rattle.std.specs.List.{AllByRecursion}
 use Rattle.std.proofs.Common.{◌≡◌, ◌≢◌, ℕ, suc, ◌+◌, ◌<◌, ◌≤◌, ◌==◌, List, [], ◌∷◌, ◌++◌, length, take, drop, Some, sym, ap, subst, ◌∙◌, inr, arith}
 use Rattle.mp_cells.specs.declared.changes.Change.{Change}
 use Rattle.mp_cells.specs.declared.changes.Change.TheVariants.{MakeLeaf, MakeInner, Cut}
@@ -17,7 +21,7 @@ use Rattle.mp_plans.proofs.Reshaping.{Reshapes, reshapes_then, after_plan-append
 use Rattle.mp_plans.proofs.SplitPieces.{split_piece}
 use Rattle.mp_plans.proofs.Parts.{leaf_halves, inner_halves, inner_cut, inner_left, inner_right, root_piece, root_fences}
 use Rattle.mp_plans.proofs.Reorders.{Same, same_then, move_two, swap_last, same_after, reshapes_same}
-use Rattle.mp_plans.proofs.Growths.{Grown, IsLeafOf, leaf_grown, stays_under, child_not_root}
+use Rattle.mp_plans.proofs.Growths.{Grown, leaf_grown, stays_under, child_not_root}
 
 -- a part before, and the same changes in another order
 grown_after : (spare spare' : List ℕ) (p q : Plan) (mid : PageMap) (height height' key target : ℕ) → Reshapes spare spare' p mid height height' → ((n : ℕ) → (mid n).kind ≡ Undo → after_plan p mid n ≡ mid n) → Grown spare' q (after_plan p mid) height' key target → Grown spare (p ++ q) mid height key target
@@ -34,12 +38,12 @@ grown_after spare spare' p q mid height height' key target first kept g =
       undo = λ n e. ap (λ (m : PageMap). m n) all ∙ g.undo n (ap (λ (q : PageView). q.kind) (kept n e) ∙ e) ∙ kept n e;
     }
 
-grown_same : (spare : List ℕ) (p q : Plan) (mid : PageMap) (height key target : ℕ) → Same p q → Grown spare q mid height key target → Grown spare p mid height key target
-grown_same spare p q mid height key target e g =
+grown_same : (spare : List ℕ) (p q : Plan) (mid : PageMap) (height key target : ℕ) → Same p q → AllByRecursion IsStep p → Grown spare q mid height key target → Grown spare p mid height key target
+grown_same spare p q mid height key target e changes g =
     let all = same_after p q mid e in
     record {
       new_height = g.new_height;
-      shape = reshapes_same spare [] p q mid height g.new_height e g.shape;
+      shape = reshapes_same spare [] p q mid height g.new_height e changes g.shape;
       range = g.range;
       kind = ap (λ (m : PageMap). (m target).kind) all ∙ g.kind;
       from = subst (λ (m : PageMap). (m target).low ≤ key) (sym all) g.from;
@@ -78,7 +82,7 @@ inner_grown spare mid height key m p a b tree range_m range_p range_a range_b a_
     let a_1 : a ≢ 1 = kind_apart mid a 1 Blank Inner blank_a root_inner (λ (e : Blank ≡ Inner). absurd cc) in
     let make : Change = MakeInner sep_i (mid p).high (drop 62 (mid p).children) in
     let first : Plan = (b, make) ∷ (p, Cut sep_i) ∷ put_child 1 sep_i b ∷ [] in
-    let piece = split_piece spare (a ∷ []) mid height p 1 b sep_i make (inner_cut (mid p)) (inner_right (mid p) (mid b)) tree (inr inner) range_p (omega arith) range_b (λ n. omega (arith, counts n)) root_inner has_p room (parts.makes_right (mid b) blank_b) parts.cuts (parts.parts_cut (mid b) (tree.sound b range_b) blank_b) in
+    let piece = split_piece spare (a ∷ []) mid height p 1 b sep_i make (inner_cut (mid p)) (inner_right (mid p) (mid b)) parts.right_change tree (inr inner) range_p (omega arith) range_b (λ n. omega (arith, counts n)) root_inner has_p room (parts.makes_right (mid b) blank_b) parts.cuts (parts.parts_cut (mid b) (tree.sound b range_b) blank_b) in
     let next = after_plan first mid in
     let same : next m ≡ mid m = piece.others m m_b m_p m_1 in
     let at_left : 1 ≤ uses m (numbers (take 62 (mid p).children)) → CanTake next m p = λ h. record {
@@ -104,12 +108,13 @@ inner_grown spare mid height key m p a b tree range_m range_p range_a range_b a_
     let a2 : ℕ × Change = (m, Cut sep_l) in
     let ct : ℕ × Change = put_child t sep_l a in
     let c1 : ℕ × Change = put_child 1 sep_i b in
+    let h = both.shape.changes in
     let b1 : ℕ × Change = (b, make) in
     let b2 : ℕ × Change = (p, Cut sep_i) in
     let order : Same (a1 ∷ a2 ∷ b1 ∷ b2 ∷ ct ∷ c1 ∷ []) (b1 ∷ b2 ∷ c1 ∷ a1 ∷ a2 ∷ ct ∷ []) =
     same_then (a1 ∷ a2 ∷ b1 ∷ b2 ∷ ct ∷ c1 ∷ []) (a1 ∷ a2 ∷ b1 ∷ b2 ∷ c1 ∷ ct ∷ []) (b1 ∷ b2 ∷ c1 ∷ a1 ∷ a2 ∷ ct ∷ [])
     (swap_last a1 a2 b1 b2 ct c1 target.not_root) (move_two a1 a2 b1 b2 c1 ct (a_b, (a_p, (a_1, tt))) (m_b, (m_p, (m_1, tt)))) in
-    grown_same spare (a1 ∷ a2 ∷ b1 ∷ b2 ∷ ct ∷ c1 ∷ []) (first ++ second) mid height key (side key sep_l m a) order both
+    grown_same spare (a1 ∷ a2 ∷ b1 ∷ b2 ∷ ct ∷ c1 ∷ []) (first ++ second) mid height key (side key sep_l m a) order (h.1.1.1.0, (h.1.1.1.1.0, (h.0, (h.1.0, (h.1.1.1.1.1.0, (h.1.1.0, tt)))))) both
 
 pub higher_grown : (spare : List ℕ) (mid : PageMap) (height key m a b c : ℕ) → TreeWith spare mid height → m < 4096 → a < 4096 → b < 4096 → c < 4096 → a ≢ b → a ≢ c → b ≢ c → IsLeafOf key (mid m) → length (mid m).rows ≡ 15
     → ((n : ℕ) → uses n spare ≡ one_if (a == n) + one_if (b == n) + one_if (c == n))
@@ -133,10 +138,12 @@ higher_grown spare mid height key m a b c tree range_m range_a range_b range_c a
     let a_1 : a ≢ 1 = kind_apart mid a 1 Blank Inner blank_a inner (λ (e : Blank ≡ Inner). absurd cc) in
     let make_l : Change = MakeInner 0 sep_i (take 62 (mid 1).children) in
     let make_r : Change = MakeInner sep_i top (drop 62 (mid 1).children) in
+    let ok_l : IsChange make_l = subst (λ (low : ℕ). IsChange (MakeInner low sep_i (take 62 (mid 1).children))) fences.0 parts.left_change in
+    let ok_r : IsChange make_r = subst (λ (high : ℕ). IsChange (MakeInner sep_i high (drop 62 (mid 1).children))) fences.1 parts.right_change in
     let makes_l : applied make_l (mid b) ≡ Some (inner_left (mid 1) (mid b)) = ap (λ (low : ℕ). applied (MakeInner low sep_i (take 62 (mid 1).children)) (mid b)) (sym fences.0) ∙ parts.makes_left (mid b) blank_b in
     let makes_r : applied make_r (mid c) ≡ Some (inner_right (mid 1) (mid c)) = ap (λ (high : ℕ). applied (MakeInner sep_i high (drop 62 (mid 1).children)) (mid c)) (sym fences.1) ∙ parts.makes_right (mid c) blank_c in
     let first : Plan = root_inner_parts (mid 1) b c in
-    let piece = root_piece spare (a ∷ []) mid height b c sep_i make_l make_r (inner_left (mid 1) (mid b)) (inner_right (mid 1) (mid c)) tree range_b range_c b_c (λ n. omega (arith, counts n)) makes_l makes_r (parts.parts_made (mid b) (mid c) (tree.sound b range_b) (tree.sound c range_c) blank_b blank_c) in
+    let piece = root_piece spare (a ∷ []) mid height b c sep_i make_l make_r (inner_left (mid 1) (mid b)) (inner_right (mid 1) (mid c)) ok_l ok_r tree range_b range_c b_c (λ n. omega (arith, counts n)) makes_l makes_r (parts.parts_made (mid b) (mid c) (tree.sound b range_b) (tree.sound c range_c) blank_b blank_c) in
     let next = after_plan first mid in
     let same : next m ≡ mid m = piece.others m m_b m_c m_1 in
     let at_left : 1 ≤ uses m (numbers (take 62 (mid 1).children)) → CanTake next m b = λ h. record {
@@ -161,7 +168,8 @@ higher_grown spare mid height key m a b c tree range_m range_a range_b range_c a
     let a1 : ℕ × Change = (a, MakeLeaf sep_l (mid m).high (drop 8 (mid m).rows)) in
     let a2 : ℕ × Change = (m, Cut sep_l) in
     let ct : ℕ × Change = put_child t sep_l a in
+    let h = both.shape.changes in
     let b1 : ℕ × Change = (b, make_l) in
     let b2 : ℕ × Change = (c, make_r) in
     let b3 : ℕ × Change = (1, MakeInner 0 top (two_children sep_i b c)) in
-    grown_same spare (a1 ∷ a2 ∷ b1 ∷ b2 ∷ b3 ∷ ct ∷ []) (first ++ second) mid height key (side key sep_l m a) (move_two a1 a2 b1 b2 b3 ct (a_b, (a_c, (a_1, tt))) (m_b, (m_c, (m_1, tt)))) both
+    grown_same spare (a1 ∷ a2 ∷ b1 ∷ b2 ∷ b3 ∷ ct ∷ []) (first ++ second) mid height key (side key sep_l m a) (move_two a1 a2 b1 b2 b3 ct (a_b, (a_c, (a_1, tt))) (m_b, (m_c, (m_1, tt)))) (h.1.1.1.0, (h.1.1.1.1.0, (h.0, (h.1.0, (h.1.1.0, (h.1.1.1.1.1.0, tt)))))) both

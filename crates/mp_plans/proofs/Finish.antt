@@ -1,4 +1,5 @@
 -- The end of a write: the former version becomes an undo record, and the row is put. And a row that is put back.
+use Rattle.mp_cells.proofs.KeyEdits.{All-append}
 use Rattle.std.proofs.Common.{◌≡◌, ℕ, ◌+◌, ◌<◌, ◌≤◌, ◌==◌, ◌||◌, nat_lt, Bool, true, false, cond, List, [], ◌∷◌, ◌++◌, length, Some, None, refl, sym, ap, subst, ◌∙◌, arith}
 use mathlib.Core.Bool.{false≢true}
 use Rattle.std.specs.Prelude.{is_some}
@@ -14,7 +15,7 @@ use Rattle.mp_cells.specs.Trees.{PageMap, IsTree, tree_rows, row_at}
 use Rattle.mp_cells.proofs.KeyOrder.{Rises}
 use Rattle.mp_cells.proofs.AppliedPages.{applied-page}
 use Rattle.mp_plans.specs.Plans.{Plan, with_page, after_plan}
-use Rattle.mp_plans.specs.Writes.{undo_at, version_of, Writes, Restores, WellRestore}
+use Rattle.mp_plans.specs.Writes.{undo_at, version_of, Writes, Restores, WellRestore, IsStep}
 use Rattle.mp_plans.proofs.Spare.{with_none, of_none, leaf_facts, kind_apart}
 use Rattle.mp_plans.proofs.Reshaping.{after_plan-append, Meets-append, can_apply, changed_is, Reshapes}
 use Rattle.mp_plans.proofs.Steps.{kind_test, record_step, leaf_put}
@@ -55,6 +56,7 @@ finished plan pages height height' u m former row shape is_former r =
     let last : after_plan tail mid ≡ with_page next m page = ap (with_page next m) (changed_is (PutRow row) old page is) in
     let all : after_plan (plan ++ tail) pages ≡ with_page next m page = after_plan-append plan tail pages ∙ last in
     record {
+      changes = All-append IsStep plan tail shape.changes ((r.undo_range, r.former_row), ((r.leaf_range, r.is_row), tt));
       meets = Meets-append plan tail pages shape.meets (first.meets.0, (can_apply (PutRow row) old page is, tt));
       new_height = height';
       tree = subst (λ (p : PageMap). IsTree p height') (sym all) (of_none (with_page next m page) height' put.tree);
@@ -88,6 +90,7 @@ restored pages height m row tree lt kind held is_row =
     let put = leaf_put [] pages height m row (with_none pages height tree) lt kind within.0 within.1 (applied-page (RestoreRow row) old page (tree.sound m lt) is_row is) in
     let all : after_plan ((m, RestoreRow row) ∷ []) pages ≡ with_page pages m page = ap (with_page pages m) (changed_is (RestoreRow row) old page is) in
     record {
+      changes = ((lt, is_row), tt);
       meets = (can_apply (RestoreRow row) old page is, tt);
       tree = subst (λ (p : PageMap). IsTree p height) (sym all) (of_none (with_page pages m page) height put.tree);
       rows = ap (λ (p : PageMap). tree_rows p height) all ∙ put.rows;

@@ -1,4 +1,6 @@
 -- A tree grows for a row: in each case it is a tree again, and a leaf takes the row.
+use Rattle.mp_plans.specs.Fitting.{IsLeafOf}
+use Rattle.mp_cells.specs.Mtrs.{IsChange}
 use Rattle.std.proofs.Common.{◌≡◌, ◌≢◌, ℕ, zero, suc, ◌+◌, ◌<◌, ◌≤◌, ◌==◌, ◌||◌, nat_lt, Bool, true, false, cond, List, [], ◌∷◌, ◌++◌, length, take, drop, Some, refl, sym, ap, subst, ◌∙◌, inl, inr, ◌⊎◌, arith}
 use Rattle.std.specs.List.{AllByRecursion}
 use Rattle.std.proofs.lemmas.Bool.{cases_eq, cases_lt, lt-ltb}
@@ -36,12 +38,6 @@ pub record Grown (spare : List ℕ) (plan : Plan) (mid : PageMap) (height key ta
   pub until : key < (after_plan plan mid target).high
   pub place : has_place key (after_plan plan mid target) ≡ true
   pub undo : (n : ℕ) → (mid n).kind ≡ Undo → after_plan plan mid n ≡ mid n
-
--- a leaf between whose fences a key lies
-pub record IsLeafOf (key : ℕ) (page : PageView) : Type 0 where
-  pub kind : page.kind ≡ Leaf
-  pub from : page.low ≤ key
-  pub until : key < page.high
 
 pub stays_grown : (mid : PageMap) (height key m : ℕ) → TreeWith [] mid height → m < 4096 → IsLeafOf key (mid m) → has_place key (mid m) ≡ true → Grown [] [] mid height key m
 stays_grown mid height key m tree lt leaf place = record { new_height = height; shape = reshapes_none [] mid height tree; range = lt; kind = leaf.kind; from = leaf.from; until = leaf.until; place = place; undo = λ n e. refl }
@@ -109,7 +105,7 @@ leaf_grown spare mid height key m p a page tree is range_m range_p range_a leaf 
     let kind : (mid m).kind ≡ Leaf = ap (λ (q : PageView). q.kind) is ∙ leaf.kind in
     let cuts : applied (Cut (leaf_separator page)) (mid m) ≡ Some (leaf_cut page) = ap (applied (Cut (leaf_separator page))) is ∙ parts.cuts in
     let of : PartsOf (mid m) (leaf_cut page) (leaf_right page (mid a)) (leaf_separator page) = subst (λ (q : PageView). PartsOf q (leaf_cut page) (leaf_right page (mid a)) (leaf_separator page)) (sym is) (parts.parts_cut (mid a) (tree.sound a range_a) blank) in
-    let piece = split_piece spare [] mid height m p a (leaf_separator page) (MakeLeaf (leaf_separator page) page.high (drop 8 page.rows)) (leaf_cut page) (leaf_right page (mid a)) tree (inl kind) range_m range_p range_a (λ n. omega (arith, counts n)) inner has room (parts.makes_right (mid a) blank) cuts of in
+    let piece = split_piece spare [] mid height m p a (leaf_separator page) (MakeLeaf (leaf_separator page) page.high (drop 8 page.rows)) (leaf_cut page) (leaf_right page (mid a)) parts.right_change tree (inl kind) range_m range_p range_a (λ n. omega (arith, counts n)) inner has room (parts.makes_right (mid a) blank) cuts of in
     let new = after_plan (leaf_parts page m a ++ put_child p (leaf_separator page) a ∷ []) mid in
     let takes = takes_side new key m a (leaf_separator page) (leaf_cut page) (leaf_right page (mid a)) piece.at_m piece.at_r leaf.kind refl leaf.from refl refl leaf.until (omega (arith, ap (λ (xs : List Row). length xs) parts.left_rows, parts.left_count)) parts.right_count in
     record {
@@ -135,9 +131,11 @@ new_root_grown spare mid height key a b tree range_a range_b a_b leaf full count
     let fences = root_fences spare mid height tree in
     let blank_a : (mid a).kind ≡ Blank = tree.unused a range_a (omega (arith, counts a, one_if-same a)) in
     let blank_b : (mid b).kind ≡ Blank = tree.unused b range_b (omega (arith, counts b, one_if-same b)) in
+    let ok_a : IsChange (MakeLeaf 0 sep (take 8 page.rows)) = subst (λ (low : ℕ). IsChange (MakeLeaf low sep (take 8 page.rows))) fences.0 parts.left_change in
+    let ok_b : IsChange (MakeLeaf sep top (drop 8 page.rows)) = subst (λ (high : ℕ). IsChange (MakeLeaf sep high (drop 8 page.rows))) fences.1 parts.right_change in
     let makes_a : applied (MakeLeaf 0 sep (take 8 page.rows)) (mid a) ≡ Some (leaf_left page (mid a)) = ap (λ (low : ℕ). applied (MakeLeaf low sep (take 8 page.rows)) (mid a)) (sym fences.0) ∙ parts.makes_left (mid a) blank_a in
     let makes_b : applied (MakeLeaf sep top (drop 8 page.rows)) (mid b) ≡ Some (leaf_right page (mid b)) = ap (λ (high : ℕ). applied (MakeLeaf sep high (drop 8 page.rows)) (mid b)) (sym fences.1) ∙ parts.makes_right (mid b) blank_b in
-    let piece = root_piece spare [] mid height a b sep (MakeLeaf 0 sep (take 8 page.rows)) (MakeLeaf sep top (drop 8 page.rows)) (leaf_left page (mid a)) (leaf_right page (mid b)) tree range_a range_b a_b (λ n. omega (arith, counts n)) makes_a makes_b (parts.parts_made (mid a) (mid b) (tree.sound a range_a) (tree.sound b range_b) blank_a blank_b) in
+    let piece = root_piece spare [] mid height a b sep (MakeLeaf 0 sep (take 8 page.rows)) (MakeLeaf sep top (drop 8 page.rows)) (leaf_left page (mid a)) (leaf_right page (mid b)) ok_a ok_b tree range_a range_b a_b (λ n. omega (arith, counts n)) makes_a makes_b (parts.parts_made (mid a) (mid b) (tree.sound a range_a) (tree.sound b range_b) blank_a blank_b) in
     let new = after_plan (root_leaf_parts page a b) mid in
     let takes = takes_side new key a b sep (leaf_left page (mid a)) (leaf_right page (mid b)) piece.at_l piece.at_r refl refl leaf.from refl refl leaf.until parts.left_count parts.right_count in
     record {

@@ -1,4 +1,5 @@
 -- The two parts of a full leaf and of a full inner page, and the part of a plan that splits the root.
+use Rattle.mp_cells.specs.Mtrs.{IsChange}
 use Rattle.std.proofs.Common.{◌≡◌, ◌≢◌, ℕ, zero, suc, ◌+◌, ◌^◌, ◌<◌, ◌≤◌, ◌==◌, ◌&&◌, ◌||◌, Bool, true, false, cond, List, [], ◌∷◌, ◌++◌, length, take, drop, Some, None, refl, sym, ap, subst, ◌∙◌, inl, inr, arith}
 use Rattle.std.specs.List.{AllByRecursion}
 use Rattle.std.proofs.lemmas.Bool.{eq-eqb, and_from, lt-ltb, le-leb}
@@ -46,6 +47,8 @@ pub record LeafParts (page : PageView) : Type 0 where
   pub left_rows : cells_below (λ r. r.key) (leaf_separator page) page.rows ≡ take 8 page.rows
   pub left_count : length (take 8 page.rows) ≡ 8
   pub right_count : length (drop 8 page.rows) ≡ 7
+  pub left_change : IsChange (MakeLeaf page.low (leaf_separator page) (take 8 page.rows))
+  pub right_change : IsChange (MakeLeaf (leaf_separator page) page.high (drop 8 page.rows))
   pub cuts : applied (Cut (leaf_separator page)) page ≡ Some (leaf_cut page)
   pub makes_left : (blank : PageView) → blank.kind ≡ Blank → applied (MakeLeaf page.low (leaf_separator page) (take 8 page.rows)) blank ≡ Some (leaf_left page blank)
   pub makes_right : (blank : PageView) → blank.kind ≡ Blank → applied (MakeLeaf (leaf_separator page) page.high (drop 8 page.rows)) blank ≡ Some (leaf_right page blank)
@@ -81,6 +84,8 @@ leaf_halves page h kind full =
       left_rows = cut.below;
       left_count = left_count;
       right_count = right_count;
+      left_change = (left_test, all_take IsRow 8 page.rows content.2);
+      right_change = (right_test, all_drop IsRow 8 page.rows content.2);
       cuts = cuts;
       makes_left = makes_left;
       makes_right = makes_right;
@@ -137,6 +142,8 @@ pub record InnerParts (page : PageView) : Type 0 where
   pub right_count : length (drop 62 page.children) ≡ 62
   pub left_rises : Rises (λ c. c.low) page.low (inner_separator page) (take 62 page.children)
   pub right_rises : Rises (λ c. c.low) (inner_separator page) page.high (drop 62 page.children)
+  pub left_change : IsChange (MakeInner page.low (inner_separator page) (take 62 page.children))
+  pub right_change : IsChange (MakeInner (inner_separator page) page.high (drop 62 page.children))
   pub cuts : applied (Cut (inner_separator page)) page ≡ Some (inner_cut page)
   pub makes_left : (blank : PageView) → blank.kind ≡ Blank → applied (MakeInner page.low (inner_separator page) (take 62 page.children)) blank ≡ Some (inner_left page blank)
   pub makes_right : (blank : PageView) → blank.kind ≡ Blank → applied (MakeInner (inner_separator page) page.high (drop 62 page.children)) blank ≡ Some (inner_right page blank)
@@ -176,6 +183,8 @@ inner_halves page h kind full =
       left_children = cut.below;
       left_count = left_count;
       right_count = right_count;
+      left_change = (left_test, all_take IsChild 62 page.children content.2);
+      right_change = (right_test, all_drop IsChild 62 page.children content.2);
       left_rises = cut.left;
       right_rises = cut.right;
       cuts = cuts;
@@ -236,10 +245,10 @@ pub root_fences : (spare : List ℕ) (pages : PageMap) (height : ℕ) → TreeWi
 root_fences spare pages height tree = let n = root_node spare pages height tree in (n.1, n.2)
 
 pub root_piece : (spare spare' : List ℕ) (pages : PageMap) (height l r separator : ℕ) (make_l make_r : Change) (left right : PageView)
-    → TreeWith spare pages height → l < 4096 → r < 4096 → l ≢ r → ((n : ℕ) → uses n spare ≡ uses n spare' + one_if (l == n) + one_if (r == n))
+    → IsChange make_l → IsChange make_r → TreeWith spare pages height → l < 4096 → r < 4096 → l ≢ r → ((n : ℕ) → uses n spare ≡ uses n spare' + one_if (l == n) + one_if (r == n))
     → applied make_l (pages l) ≡ Some left → applied make_r (pages r) ≡ Some right → PartsOf (pages 1) left right separator
     → RootPiece spare spare' ((l, make_l) ∷ (r, make_r) ∷ (1, MakeInner 0 top (two_children separator l r)) ∷ []) pages height l r left right
-root_piece spare spare' pages height l r separator make_l make_r left right tree range_l range_r l_r counts makes_l makes_r f =
+root_piece spare spare' pages height l r separator make_l make_r left right ok_l ok_r tree range_l range_r l_r counts makes_l makes_r f =
     let is_root = root_node spare pages height tree in
     let once = node_once spare pages height tree 1 (omega arith) is_root.0 in
     let spare_l : 1 ≤ uses l spare = omega (arith, counts l, one_if-same l) in
@@ -297,7 +306,7 @@ root_piece spare spare' pages height l r separator make_l make_r left right tree
     } in
     let again = root_tree spare spare' pages new (record { low = 0; page = l }) (record { low = separator; page = r }) fits height tree in
     record {
-      shape = record { meets = all.meets; tree = again.tree; rows = again.rows; undo = again.undo };
+      shape = record { changes = ((range_l, ok_l), ((range_r, ok_r), ((omega arith, (test, kept)), tt))); meets = all.meets; tree = again.tree; rows = again.rows; undo = again.undo };
       at_l = all.at_a;
       at_r = all.at_b;
       others = all.others;

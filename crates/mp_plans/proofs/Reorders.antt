@@ -5,7 +5,7 @@ use Rattle.std.proofs.lemmas.Bool.{cases_eq}
 use Rattle.mp_cells.specs.declared.changes.Change.{Change}
 use Rattle.mp_cells.specs.Trees.{PageMap, tree_rows}
 use Rattle.mp_plans.specs.Plans.{Plan, after_plan, Meets, of_page, after_changes, MeetsAll}
-use Rattle.mp_plans.specs.Writes.{undo_at}
+use Rattle.mp_plans.specs.Writes.{undo_at, IsStep}
 use Rattle.mp_plans.proofs.ByPage.{after_plan-page, Meets-pages, Meets-from_pages}
 use Rattle.mp_plans.proofs.Spare.{TreeWith}
 use Rattle.mp_plans.proofs.Reshaping.{Reshapes}
@@ -43,10 +43,11 @@ same_after p q pages e = λ i n. (after_plan-page p pages n ∙ ap (λ (xs : Lis
 pub same_meets : (p q : Plan) (pages : PageMap) → Same p q → Meets q pages → Meets p pages
 same_meets p q pages e m = Meets-from_pages p pages (λ n. subst (λ (xs : List Change). MeetsAll xs (pages n)) (sym (e n)) (Meets-pages q pages m n))
 
-pub reshapes_same : (spare spare' : List ℕ) (p q : Plan) (pages : PageMap) (height height' : ℕ) → Same p q → Reshapes spare spare' q pages height height' → Reshapes spare spare' p pages height height'
-reshapes_same spare spare' p q pages height height' e r =
+pub reshapes_same : (spare spare' : List ℕ) (p q : Plan) (pages : PageMap) (height height' : ℕ) → Same p q → AllByRecursion IsStep p → Reshapes spare spare' q pages height height' → Reshapes spare spare' p pages height height'
+reshapes_same spare spare' p q pages height height' e changes r =
     let after = same_after p q pages e in
     record {
+      changes = changes;
       meets = same_meets p q pages e r.meets;
       tree = subst (λ (m : PageMap). TreeWith spare' m height') (sym after) r.tree;
       rows = ap (λ (m : PageMap). tree_rows m height') after ∙ r.rows;

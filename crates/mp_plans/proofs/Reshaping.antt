@@ -1,6 +1,7 @@
 -- Parts of a plan that keep the rows of a tree and the undo records, one after another.
+use Rattle.mp_cells.proofs.KeyEdits.{All-append}
 use Rattle.std.proofs.Common.{◌≡◌, ◌≢◌, ℕ, Bool, false, cond, List, [], ◌∷◌, ◌++◌, Some, None, IsSome, refl, sym, ap, subst, ◌∙◌, inl, inr}
-use Rattle.std.specs.List.{slice_get}
+use Rattle.std.specs.List.{slice_get, AllByRecursion}
 use Rattle.std.proofs.lemmas.Bool.{cases_eq}
 use Rattle.mp_cells.specs.declared.changes.Change.{Change}
 use Rattle.mp_cells.specs.declared.kinds.Kind.TheVariants.{Undo}
@@ -9,7 +10,7 @@ use Rattle.mp_cells.specs.PageView.{PageView, is_of}
 use Rattle.mp_cells.specs.Changes.{applied}
 use Rattle.mp_cells.specs.Trees.{PageMap, tree_rows}
 use Rattle.mp_plans.specs.Plans.{Plan, CanApply, or_else, changed, with_page, after_change, after_plan, Meets}
-use Rattle.mp_plans.specs.Writes.{record_in, undo_at}
+use Rattle.mp_plans.specs.Writes.{record_in, undo_at, IsStep}
 use Rattle.mp_plans.proofs.ByPage.{with_page-here, with_page-other}
 use Rattle.mp_plans.proofs.Spare.{TreeWith}
 
@@ -44,18 +45,20 @@ undo_kept pages m page same link = at_page pages m page (λ n view. record_in vi
 
 -- a part of a plan that leaves a tree with these spare pages, and the same rows and undo records
 pub record Reshapes (spare spare' : List ℕ) (plan : Plan) (pages : PageMap) (height height' : ℕ) : Type 0 where
+  pub changes : AllByRecursion IsStep plan
   pub meets : Meets plan pages
   pub tree : TreeWith spare' (after_plan plan pages) height'
   pub rows : tree_rows (after_plan plan pages) height' ≡ tree_rows pages height
   pub undo : (link : Link) → undo_at (after_plan plan pages) link ≡ undo_at pages link
 
 pub reshapes_none : (spare : List ℕ) (pages : PageMap) (height : ℕ) → TreeWith spare pages height → Reshapes spare spare [] pages height height
-reshapes_none spare pages height tree = record { meets = tt; tree = tree; rows = refl; undo = λ link. refl }
+reshapes_none spare pages height tree = record { changes = tt; meets = tt; tree = tree; rows = refl; undo = λ link. refl }
 
 pub reshapes_then : (spare spare' spare'' : List ℕ) (p q : Plan) (pages : PageMap) (height height' height'' : ℕ) → Reshapes spare spare' p pages height height' → Reshapes spare' spare'' q (after_plan p pages) height' height'' → Reshapes spare spare'' (p ++ q) pages height height''
 reshapes_then spare spare' spare'' p q pages height height' height'' a b =
     let all = after_plan-append p q pages in
     record {
+      changes = All-append IsStep p q a.changes b.changes;
       meets = Meets-append p q pages a.meets b.meets;
       tree = subst (λ (m : PageMap). TreeWith spare'' m height'') (sym all) b.tree;
       rows = ap (λ (m : PageMap). tree_rows m height'') all ∙ b.rows ∙ a.rows;

@@ -1,5 +1,6 @@
 -- The part of a plan that splits a page under its parent: the right part is made, the left part is cut, and the parent
 -- gets the right part as a child.
+use Rattle.mp_cells.specs.Mtrs.{IsChange}
 use Rattle.std.proofs.Common.{◌≡◌, ◌≢◌, ℕ, zero, suc, ◌+◌, ◌^◌, ◌<◌, ◌≤◌, ◌==◌, true, List, [], ◌∷◌, ◌++◌, length, take, drop, Some, sym, ap, subst, ◌∙◌, inl, inr, arith}
 use Rattle.std.specs.List.{AllByRecursion}
 use Rattle.std.proofs.lemmas.Bool.{cases_eq, cases_lt, and_from, lt-ltb, le-leb}
@@ -96,12 +97,12 @@ pub record SplitPiece (spare spare' : List ℕ) (plan : Plan) (pages : PageMap) 
   pub others : (n : ℕ) → n ≢ r → n ≢ m → n ≢ p → after_plan plan pages n ≡ pages n
 
 pub split_piece : (spare spare' : List ℕ) (pages : PageMap) (height m p r separator : ℕ) (make : Change) (left right : PageView)
-    → TreeWith spare pages height → IsNode (pages m).kind → m < 4096 → p < 4096 → r < 4096
+    → IsChange make → TreeWith spare pages height → IsNode (pages m).kind → m < 4096 → p < 4096 → r < 4096
     → ((n : ℕ) → uses n spare ≡ uses n spare' + one_if (r == n))
     → (pages p).kind ≡ Inner → 1 ≤ uses m (numbers (pages p).children) → length (pages p).children < 124
     → applied make (pages r) ≡ Some right → applied (Cut separator) (pages m) ≡ Some left → PartsOf (pages m) left right separator
     → SplitPiece spare spare' ((r, make) ∷ (m, Cut separator) ∷ put_child p separator r ∷ []) pages height m p r separator left right
-split_piece spare spare' pages height m p r separator make left right tree node range_m range_p range_r counts inner has room makes cuts f =
+split_piece spare spare' pages height m p r separator make left right make_ok tree node range_m range_p range_r counts inner has room makes cuts f =
     let new_child : Child = record { low = separator; page = r } in
     let spare_r : 1 ≤ uses r spare = omega (arith, counts r, one_if-same r) in
     let blank : (pages r).kind ≡ Blank = tree.unused r range_r spare_r in
@@ -164,7 +165,7 @@ split_piece spare spare' pages height m p r separator make left right tree node 
     } in
     let again = split_tree spare spare' pages new height m p new_child tree fits in
     record {
-      shape = record { meets = all.meets; tree = again.tree; rows = again.rows; undo = again.undo };
+      shape = record { changes = ((range_r, make_ok), ((range_m, is_child.low), ((range_p, is_child), tt))); meets = all.meets; tree = again.tree; rows = again.rows; undo = again.undo };
       at_m = all.at_b;
       at_r = all.at_a;
       at_p = all.at_c;

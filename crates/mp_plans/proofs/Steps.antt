@@ -98,6 +98,7 @@ take_step spare pages height n tree least most clear =
       ]);
     } in
     record {
+      changes = ((omega arith, and_from _ _ (le-leb 2 n least) (lt-ltb n 4096 most)), tt);
       meets = (can_apply (TakePage n) old page is, tt);
       tree = subst (λ (m : PageMap). TreeWith (n ∷ spare) m height) (sym after) (kept_tree spare (n ∷ spare) pages new height keeps tree);
       rows = ap (λ (m : PageMap). tree_rows m height) after ∙ kept_rows spare pages new height keeps.shape tree (λ k e. rows k);
@@ -138,6 +139,7 @@ undo_step spare spare' pages height u tree lt counts =
           (λ k other k_lt h. tree.unused k k_lt (omega (arith, h, counts k)));
     } in
     record {
+      changes = ((lt, tt), tt);
       meets = (can_apply MakeUndo old page is, tt);
       tree = subst (λ (m : PageMap). TreeWith spare' m height) (sym after) (kept_tree spare spare' pages new height keeps tree);
       rows = ap (λ (m : PageMap). tree_rows m height) after ∙ kept_rows spare pages new height keeps.shape tree (λ n e. ap (λ (p : PageView). p.rows) (leaf n e));

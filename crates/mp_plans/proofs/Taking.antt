@@ -1,4 +1,5 @@
 -- Several pages are taken: each is spare then, and nothing else changes.
+use Rattle.mp_plans.specs.Fitting.{IsClear}
 use Rattle.std.proofs.Common.{◌≡◌, ◌≢◌, ℕ, ◌+◌, ◌<◌, ◌≤◌, Bool, true, cond, List, [], ◌∷◌, Some, None, refl, ap, ◌∙◌, arith}
 use Rattle.std.specs.List.{AllByRecursion}
 use Rattle.std.proofs.lemmas.Bool.{and_from, eq-eqb, le-leb, lt-ltb}
@@ -31,11 +32,7 @@ respare spare spare' pages height same tree = record {
 }
 
 pub respared : (spare spare' spare'' : List ℕ) (plan : Plan) (pages : PageMap) (height height' : ℕ) → ((n : ℕ) → uses n spare' ≡ uses n spare'') → Reshapes spare spare' plan pages height height' → Reshapes spare spare'' plan pages height height'
-respared spare spare' spare'' plan pages height height' same r = record { meets = r.meets; tree = respare spare' spare'' (after_plan plan pages) height' same r.tree; rows = r.rows; undo = r.undo }
-
--- a page that can be taken
-abbrev pub IsClear : PageView → ℕ → Type 0
-IsClear meta n = (2 ≤ n) × (n < 4096) × (bit_of meta.bits n ≡ 0)
+respared spare spare' spare'' plan pages height height' same r = record { changes = r.changes; meets = r.meets; tree = respare spare' spare'' (after_plan plan pages) height' same r.tree; rows = r.rows; undo = r.undo }
 
 pub record Taken (spare : List ℕ) (numbers : List ℕ) (pages : PageMap) (height : ℕ) : Type 0 where
   pub spare_after : List ℕ

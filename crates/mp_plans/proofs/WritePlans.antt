@@ -1,6 +1,6 @@
 -- The plan of a write, whole: over every tree that has the pages that it changes, it writes the row.
+use Rattle.mp_plans.specs.Fitting.{IsLeafOf, IsClear, IsFullLeaf, IsParent, GrowthFits, UndoFits, WriteFits}
 use Rattle.std.proofs.Common.{◌≡◌, ◌≢◌, ℕ, ◌^◌, ◌<◌, ◌≤◌, ◌==◌, Bool, true, false, cond, List, [], ◌∷◌, ◌++◌, length, take, Some, None, refl, sym, ap, subst, ◌∙◌, inl, inr, arith}
-use Rattle.std.specs.Prelude.{is_some}
 use Rattle.std.specs.List.{AllByRecursion}
 use Rattle.std.proofs.lemmas.List.{append-nil}
 use Rattle.std.proofs.lemmas.List.Concat.{flat_map-append}
@@ -26,26 +26,9 @@ use Rattle.mp_plans.proofs.Reshaping.{changed_is, Reshapes, reshapes_none, resha
 use Rattle.mp_plans.proofs.Steps.{kind_test, undo_step}
 use Rattle.mp_plans.proofs.SplitTrees.{IsNode}
 use Rattle.mp_plans.proofs.Finish.{Ready, finished}
-use Rattle.mp_plans.proofs.Growths.{Grown, IsLeafOf, stays_grown, leaf_grown, new_root_grown}
+use Rattle.mp_plans.proofs.Growths.{Grown, stays_grown, leaf_grown, new_root_grown}
 use Rattle.mp_plans.proofs.DoubleSplits.{inner_grown, higher_grown}
-use Rattle.mp_plans.proofs.Taking.{respared, IsClear, take_all}
-
--- ---- what each growth needs of the pages that it changes
-
-abbrev pub IsFullLeaf : PageView → Type 0
-IsFullLeaf page = length page.rows ≡ 15
-
-pub record IsParent (pages : PageMap) (m p : ℕ) : Type 0 where
-  pub range : p < 4096
-  pub kind : (pages p).kind ≡ Inner
-  pub has : 1 ≤ uses m (numbers (pages p).children)
-
-abbrev pub GrowthFits : PageMap → ℕ → ℕ → Growth → Type 0
-GrowthFits pages key m stays = has_place key (pages m) ≡ true
-GrowthFits pages key m new_root = (m ≡ 1) × IsFullLeaf (pages m)
-GrowthFits pages key m (leaf p) = IsFullLeaf (pages m) × IsParent pages m p × (length (pages p).children < 124)
-GrowthFits pages key m (inner p) = IsFullLeaf (pages m) × IsParent pages m p × (length (pages p).children ≡ 124) × IsParent pages p 1 × (length (pages 1).children < 124)
-GrowthFits pages key m higher = IsFullLeaf (pages m) × IsParent pages m 1 × (length (pages 1).children ≡ 124)
+use Rattle.mp_plans.proofs.Taking.{respared, take_all}
 
 spare_once : (spare : List ℕ) (pages : PageMap) (height : ℕ) → TreeWith spare pages height → (n : ℕ) → n < 4096 → uses n spare ≤ 1
 spare_once spare pages height tree n lt = omega (arith, tree.bits n lt, bit_at-lt)
@@ -124,10 +107,6 @@ kept_pages higher pages mid key m kind same fits = (same m (inl kind), same 1 (i
 
 -- ---- before the growth: pages are taken, and a fresh undo page is made
 
-abbrev pub UndoFits : Bool → ℕ → PageMap → Type 0
-UndoFits true u pages = Unit {0}
-UndoFits false u pages = (u < 4096) × ((pages u).kind ≡ Undo) × (length (pages u).rows < 15)
-
 record Prepared (spare : List ℕ) (plan : Plan) (pages : PageMap) (height u count : ℕ) : Type 0 where
   shape : Reshapes [] spare plan pages height height
   node : (n : ℕ) → IsNode (pages n).kind → after_plan plan pages n ≡ pages n
@@ -185,17 +164,6 @@ prepared false spare pages height u tree clear once undo =
     }
 
 -- ---- the whole plan
-
-pub record WriteFits (pages : PageMap) (growth : Growth) (m : ℕ) (fresh : Bool) (u a b c : ℕ) (row : Row) : Type 0 where
-  pub range : m < 4096
-  pub is_leaf : IsLeafOf row.key (pages m)
-  pub fits : GrowthFits pages row.key m growth
-  pub clear : AllByRecursion (IsClear (pages 0)) (new_pages fresh u growth a b c)
-  pub once : (n : ℕ) → uses n (new_pages fresh u growth a b c) ≤ 1
-  pub undo : UndoFits fresh u pages
-  pub is_row : IsRow row
-  pub writer : is_some row.writer ≡ true
-  pub link : row.link ≡ Some (record { page = u; index = cond fresh 0 (length (pages u).rows) })
 
 all_below : (meta : PageView) (numbers : List ℕ) → AllByRecursion (IsClear meta) numbers → AllBelow 4096 numbers
 all_below meta [] h = tt

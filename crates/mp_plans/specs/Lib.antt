@@ -1,3 +1,4 @@
 pub mod Plans
 pub mod Writes
 pub mod Growth
+pub mod Fitting

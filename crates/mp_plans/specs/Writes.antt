@@ -1,6 +1,7 @@
 -- Plans that write one row, and plans that put one row back.
-use Rattle.std.specs.Prelude.{◌≡◌, ℕ, ◌≤◌, ◌==◌, ◌&&◌, Bool, List, [], ◌∷◌, length, slice_get, Option, Some, None, if◌then◌else◌}
-use Rattle.std.specs.List.{flat_map}
+use Rattle.mp_cells.specs.Mtrs.{IsChange}
+use Rattle.std.specs.Prelude.{◌≡◌, ℕ, ◌≤◌, ◌==◌, ◌&&◌, Bool, List, [], ◌∷◌, length, slice_get, Option, Some, None, if◌then◌else◌, ◌<◌}
+use Rattle.std.specs.List.{flat_map, AllByRecursion}
 use Rattle.mp_cells.specs.declared.kinds.Kind.TheVariants.{Undo}
 use Rattle.mp_cells.specs.declared.changes.Change.{Change}
 use Rattle.mp_cells.specs.declared.changes.Change.TheVariants.{PutRow, RestoreRow, TakePage}
@@ -10,6 +11,10 @@ use Rattle.mp_cells.specs.PageView.{PageView, is_of}
 use Rattle.mp_cells.specs.Keys.{with_cell}
 use Rattle.mp_cells.specs.Trees.{PageMap, IsTree, tree_rows, row_at}
 use Rattle.mp_plans.specs.Plans.{Plan, Meets, after_plan, Agrees}
+
+-- a change that a record may have, of one of the 4,096 pages
+abbrev pub IsStep : ℕ × Change → Type 0
+IsStep step = (step.0 < 4096) × IsChange step.1
 
 -- the rows that a plan puts
 abbrev pub row_put : Change → List Row
@@ -59,6 +64,7 @@ pub record AddsUndo (old new : PageMap) (link : Link) (row : Row) : Type 0 where
 -- applied to a tree, a plan leaves a tree whose rows are the same but for the new row's key; the one new undo record is
 -- the version before, and the new row's link names it
 pub record Writes (plan : Plan) (row : Row) (pages : PageMap) (height : ℕ) : Type 0 where
+  pub changes : AllByRecursion IsStep plan
   pub meets : Meets plan pages
   pub new_height : ℕ
   pub tree : IsTree (after_plan plan pages) new_height
@@ -77,6 +83,7 @@ pub record WellPut (given : PageMap) (row : Row) (plan : Plan) : Type 0 where
 
 -- applied to a tree, a plan leaves a tree whose rows are the same but for this row's key, and the undo records as they were
 pub record Restores (plan : Plan) (row : Row) (pages : PageMap) (height : ℕ) : Type 0 where
+  pub changes : AllByRecursion IsStep plan
   pub meets : Meets plan pages
   pub tree : IsTree (after_plan plan pages) height
   pub rows : tree_rows (after_plan plan pages) height ≡ with_cell (λ r. r.key) row (tree_rows pages height)

@@ -5,4 +5,4 @@
 
 mod laws;
 
-pub use laws::{law_plan_by_page, law_restore, law_three_levels};
+pub use laws::{law_plan_by_page, law_restore, law_three_levels, law_well_put_examples, law_write};

@@ -1,4 +1,5 @@
 -- How a tree grows, as the search finds it, and what that needs of the pages.
+use Rattle.mp_plans.specs.Fitting.{IsLeafOf, GrowthFits, IsParent, IsFullLeaf}
 use Rattle.std.proofs.Common.{◌≡◌, ◌≢◌, ℕ, zero, suc, ◌<◌, ◌≤◌, ◌==◌, ◌||◌, nat_lt, Bool, true, false, cond, List, [], ◌∷◌, length, Option, Some, None, refl, sym, ap, subst, ◌∙◌, inl, inr, arith}
 use mathlib.Core.Bool.{false≢true}
 use Rattle.std.proofs.lemmas.Bool.{cases_eq, ltb-true}
@@ -17,8 +18,7 @@ use Rattle.mp_plans.specs.Growth.{growth_of, has_place}
 use Rattle.mp_plans.proofs.Uses.{one_if-same, one_if-other}
 use Rattle.mp_plans.proofs.Heights.{numbers, height_most, root_has_room}
 use Rattle.mp_plans.proofs.Spare.{leaf_facts, inner_facts, content_of}
-use Rattle.mp_plans.proofs.Growths.{IsLeafOf, child_not_root}
-use Rattle.mp_plans.proofs.WritePlans.{GrowthFits, IsParent, IsFullLeaf}
+use Rattle.mp_plans.proofs.Growths.{child_not_root}
 use Rattle.mp_tree.specs.declared.growth.Growth.TheVariants.{Leaf as UnderParent, Inner as WithParent, Higher}
 use Rattle.mp_tree.specs.declared.search.Stop.{Stop}
 use Rattle.mp_tree.specs.Planning.{stop_on, shape_of, growth_under}

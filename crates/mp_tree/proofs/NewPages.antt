@@ -1,4 +1,5 @@
 -- The lowest clear pages, one behind the other.
+use Rattle.mp_plans.specs.Fitting.{IsClear}
 use Rattle.std.proofs.Common.{◌≡◌, ◌≢◌, ℕ, zero, suc, ◌+◌, ◌-◌, ◌<◌, ◌≤◌, ◌==◌, nat_lt, Bool, true, cond, List, [], ◌∷◌, length, take, Option, Some, None, IsSome, IfSome, refl, sym, ap, subst, ◌∙◌, inl, inr, arith}
 use Rattle.std.specs.List.{AllByRecursion}
 use mathlib.Core.Bool.{false≢true}
@@ -7,7 +8,6 @@ use Rattle.mp_cells.specs.PageView.{PageView, bit_of}
 use Rattle.mp_cells.specs.Trees.{PageMap, IsTree, uses, tree_pages}
 use Rattle.mp_plans.specs.Growth.{Growth, stays, new_root, leaf, inner, higher, pages_needed}
 use Rattle.mp_plans.proofs.Uses.{one_if-same, one_if-other, one_if-most}
-use Rattle.mp_plans.proofs.Taking.{IsClear}
 use Rattle.mp_tree.specs.declared.new_pages.New.{New}
 use Rattle.mp_tree.specs.Planning.{clear_from, clear_pages, IsNextClear}
 use Rattle.mp_tree.specs.Writing.{IsFront, IsNew, HasNew, needed_for}

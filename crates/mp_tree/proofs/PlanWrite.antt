@@ -1,4 +1,5 @@
 -- What a write reads and takes makes its plan the plan of a write.
+use Rattle.mp_plans.specs.Fitting.{IsClear, WriteFits}
 use Rattle.std.proofs.Common.{◌≡◌, ℕ, ◌^◌, ◌<◌, ◌≤◌, nat_lt, Bool, true, false, cond, List, length, Option, Some, None, IfSome, refl, sym, ap, subst, ◌∙◌, arith}
 use Rattle.std.specs.Prelude.{is_none}
 use Rattle.std.specs.List.{AllByRecursion}
@@ -12,8 +13,7 @@ use Rattle.mp_cells.proofs.TreeSearch.{tree_found}
 use Rattle.mp_plans.specs.Plans.{Plan}
 use Rattle.mp_plans.specs.Growth.{Growth, growth_of, write_plan}
 use Rattle.mp_plans.specs.Writes.{WellPut}
-use Rattle.mp_plans.proofs.Taking.{IsClear}
-use Rattle.mp_plans.proofs.WritePlans.{WriteFits, well_written}
+use Rattle.mp_plans.proofs.WritePlans.{well_written}
 use Rattle.mp_tree.specs.declared.search.Stop.{Stop}
 use Rattle.mp_tree.specs.declared.growth.Reading.{Reading}
 use Rattle.mp_tree.specs.declared.new_pages.New.{New}
