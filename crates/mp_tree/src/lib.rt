@@ -18,4 +18,6 @@ pub use search::{LeafRows, find, rows_from};
 pub use write::{PlanKind, PlanRefusal, Write, plan_write};
 
 #[cfg(test)]
+mod memory;
+#[cfg(test)]
 mod tests;

@@ -1,9 +1,11 @@
-ghost use Rattle.std.specs.Prelude.{IsTrue};
+ghost use Rattle.std.specs.Prelude.{◌<◌, ◌≤◌, IsTrue, IfSome};
 ghost use Rattle.mp_cells.specs.Rows.{is_writer, IsRow};
 
 use super::*;
+use crate::memory::Store;
 use mp_model::{NotYet, TrxId, Value};
-use mp_page::{Change, Page, Pager, Row, read_page};
+use mp_page::{Change, Page, Pager, Pages, Row, read_page};
+use std::alloc::Global;
 use std::test::*;
 
 // Pages 0, 1 and 2, and blank pages behind them.
@@ -200,4 +202,95 @@ fn gone(key: u32) -> Row
         writer: None,
         link: None,
     }
+}
+
+// A store with an empty root.
+fn fresh_store(alloc: Global) -> Option<Store> {
+    let mut meta = [0; 1024];
+    meta[0] = 1;
+    meta[1] = 1;
+    meta[2] = 2;
+    meta[32] = 3;
+    let mut leaf = [0; 1024];
+    leaf[0] = 2;
+    leaf[1] = 1;
+    leaf[28] = 1;
+    let mut pages = Pages::new(alloc);
+    let (Ok(meta), Ok(leaf)) = (read_page(&meta), read_page(&leaf)) else {
+        return None;
+    };
+    pages.push(meta).ok()?;
+    pages.push(leaf).ok()?;
+    for _ in 2..4096 {
+        pages.push(Page::blank()).ok()?;
+    }
+    Some(Store {
+        pages,
+        blank: Page::blank(),
+    })
+}
+
+// The page of a plan's undo record, where it may be an undo page.
+fn undo_page(plan: &Plan) -> Option<u16>
+    ensures { IfSome result (λ u. (2 ≤ u) × (u < 4096)) }
+{
+    for i in 0..plan.len() {
+        let page = plan.page(i);
+        if let Change::PutUndo { .. } = plan.change(i) {
+            return if 2 <= page && page < 4096 {
+                Some(page)
+            } else {
+                None
+            };
+        }
+    }
+    None
+}
+
+// The keys i * step % 2,003 in the order of i, which are all different. Whether each could be written, and all are found.
+fn writes_all(store: &mut Store, plan: &mut Plan, step: u32) -> bool {
+    let mut undo = None;
+    for i in 0..2000u32 {
+        let key = i.wrapping_mul(step) % 2003;
+        if plan_write(store, &write_of(key), undo, plan).is_err() || !store.apply_all(plan) {
+            return false;
+        }
+        undo = undo_page(plan);
+    }
+    for i in 0..2000u32 {
+        let key = i.wrapping_mul(step) % 2003;
+        match find(store, key) {
+            Ok(Some(row)) => {
+                if row.key != key {
+                    return false;
+                }
+            }
+            _ => return false,
+        }
+    }
+    true
+}
+
+#[test]
+fn keys_in_ascending_order(rt: HostRuntime) -> Result<(), Fail> {
+    assert!(rt; written_by(rt.alloc(), 1).ok_or("a store")?);
+    Ok(())
+}
+
+#[test]
+fn keys_in_descending_order(rt: HostRuntime) -> Result<(), Fail> {
+    assert!(rt; written_by(rt.alloc(), 2002).ok_or("a store")?);
+    Ok(())
+}
+
+#[test]
+fn keys_in_a_shuffled_order(rt: HostRuntime) -> Result<(), Fail> {
+    assert!(rt; written_by(rt.alloc(), 776).ok_or("a store")?);
+    Ok(())
+}
+
+fn written_by(alloc: Global, step: u32) -> Option<bool> {
+    let mut store = fresh_store(alloc)?;
+    let mut plan = Plan::new(alloc).ok()?;
+    Some(writes_all(&mut store, &mut plan, step))
 }
