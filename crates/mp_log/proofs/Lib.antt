@@ -8,3 +8,4 @@ pub mod Checked
 pub mod NextBatch
 pub mod Opened
 pub mod ReadAgain
+pub mod Given

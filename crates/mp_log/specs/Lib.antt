@@ -2,3 +2,4 @@ pub mod Logs
 pub mod Tails
 pub mod Reading
 pub mod Opening
+pub mod Readers

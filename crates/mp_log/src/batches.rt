@@ -225,7 +225,9 @@ pub(crate) fn next_batch<D: Disk>(
     ensures tells { D.tells disk.new ≡ D.tells disk.old }
     ensures quiet { Quiet (D.seen disk.old) (D.image disk.old) (D.seen disk.new) (D.image disk.new) }
     ensures exact { IsTrue (D.tells disk.old) → size ≡ length (D.seen disk.old) → Nexts place.node place.last (D.seen disk.old) place.gate llsns.old.items llsns.new.items result }
+    ensures front { IsTrue (D.tells disk.old) → IfOk result (λ found. IfSome found (λ next. take next.0 into.new ≡ take next.0 (drop (place.gate + 5) (D.seen disk.old)))) }
     ensures whole { length into.new ≡ 65536 }
+    ensures most { IfOk result (λ found. IfSome found (λ next. next.0 ≤ 65536)) }
     ensures within { IfOk result (λ found. IfSome found (λ next. place.gate + (6 + next.0) ≤ size)) }
     ensures known { D.known disk.new ≡ D.known disk.old }
     ensures count { D.faults disk.old ≤ D.faults disk.new }

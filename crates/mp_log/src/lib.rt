@@ -5,14 +5,17 @@
 mod batches;
 mod bodies;
 mod laws;
+mod loaded;
 mod log;
 mod opening;
+mod readers;
 mod refusals;
 mod resetting;
 mod tails;
 
-pub use laws::law_log_text;
+pub use laws::{law_log_mtrs, law_log_text};
 pub use log::{Log, Unopened};
+pub use readers::Reader;
 pub use refusals::LogRefusal;
 pub use resetting::reset;
 

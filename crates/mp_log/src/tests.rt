@@ -122,3 +122,36 @@ fn reset_and_first_above(rt: HostRuntime) -> Result<(), Fail> {
     assert_eq!(rt; log.first_above(0), None);
     Ok(())
 }
+
+// The LLSNs that a reader of primary 1 gives of a file, and what it answers behind them, twice.
+fn given(alloc: Global, file: &[u8]) -> Result<(u64, u64, bool, bool), Fail> {
+    let mut disk = MemDisk::new(alloc, file, file.len() as u64 + 64, &[])?;
+    let mut reader = Reader::new(alloc, 1)?;
+    let mut count = 0u64;
+    let mut sum = 0u64;
+    for _ in 0..9 {
+        if let Ok(Some(mtr)) = reader.next(&mut disk) {
+            count = count.wrapping_add(1);
+            sum = sum.wrapping_add(mtr.llsn);
+        }
+    }
+    let ended = matches!(reader.next(&mut disk), Ok(None));
+    let refused = matches!(reader.next(&mut disk), Err(_));
+    Ok((count, sum, ended, refused))
+}
+
+#[test]
+fn a_reader_gives_whole_batches(rt: HostRuntime) -> Result<(), Fail> {
+    let alloc = rt.alloc();
+    assert_eq!(rt; given(alloc, &[0])?, (0, 0, true, false));
+    assert_eq!(rt; given(alloc, &WORKED)?, (1, 2, true, false));
+    // Behind the first batch a second, with LLSN 3, and then one with LLSN 3 again.
+    let mut log = Vec::from_slice(alloc, &WORKED[..32])?;
+    log.extend_from_slice(&[0xa5, 27, 0, 0, 0, 1, 1, 3])?;
+    log.extend_from_slice(&WORKED[8..])?;
+    assert_eq!(rt; given(alloc, &log)?, (2, 5, true, false));
+    let mut twice = Vec::from_slice(alloc, &log[..64])?;
+    twice.extend_from_slice(&log[32..])?;
+    assert_eq!(rt; given(alloc, &twice)?, (2, 5, false, true));
+    Ok(())
+}
