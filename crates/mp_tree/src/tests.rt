@@ -4,7 +4,7 @@ ghost use Rattle.mp_cells.specs.Rows.{is_writer, IsRow};
 use super::*;
 use crate::memory::Store;
 use mp_model::{NotYet, TrxId, Value};
-use mp_page::{Change, Page, Pager, Pages, Row, read_page};
+use mp_page::{Change, Kind, Page, Pager, Pages, Row, read_page};
 use std::alloc::Global;
 use std::test::*;
 
@@ -289,8 +289,53 @@ fn keys_in_a_shuffled_order(rt: HostRuntime) -> Result<(), Fail> {
     Ok(())
 }
 
+// Whether the keys could be written and all are found, by searches that go down three levels at most, and whether each
+// page but the root keeps the least fill.
 fn written_by(alloc: Global, step: u32) -> Option<bool> {
     let mut store = fresh_store(alloc)?;
     let mut plan = Plan::new(alloc).ok()?;
-    Some(writes_all(&mut store, &mut plan, step))
+    Some(writes_all(&mut store, &mut plan, step) && is_filled(&mut store))
+}
+
+fn is_filled(store: &mut Store) -> bool {
+    for number in 2..4096 {
+        let Ok(page) = store.page(number) else {
+            return false;
+        };
+        let least = match page.kind() {
+            Kind::Leaf => 7,
+            Kind::Inner => 62,
+            _ => 0,
+        };
+        if page.count() < least {
+            return false;
+        }
+    }
+    true
+}
+
+// Writes the keys below a bound in ascending order. Whether each could be written, and the next one then finds no page.
+fn is_full_behind(store: &mut Store, plan: &mut Plan, bound: u32) -> bool {
+    let mut undo = None;
+    for key in 0..bound {
+        if plan_write(store, &write_of(key), undo, plan).is_err() || !store.apply_all(plan) {
+            return false;
+        }
+        undo = undo_page(plan);
+    }
+    let full = PlanRefusal::Full {
+        needed: 1,
+        clear: 0,
+    };
+    plan_write(store, &write_of(bound), undo, plan) == Err(full)
+}
+
+// 21,143 keys in ascending order take 1,410 undo pages, 2,642 leaves and 42 inner pages beside page 0 and the root: all
+// that there are. The next key's leaf is full.
+#[test]
+fn the_last_free_page(rt: HostRuntime) -> Result<(), Fail> {
+    let mut store = fresh_store(rt.alloc()).ok_or("a store")?;
+    let mut plan = Plan::new(rt.alloc()).ok().ok_or("there is memory")?;
+    assert!(rt; is_full_behind(&mut store, &mut plan, 21_143));
+    Ok(())
 }
