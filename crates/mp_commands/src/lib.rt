@@ -1,0 +1,8 @@
+//! What the plain commands do with the disks of a store and its logs. It hides in which order the files are read, and
+//! how their texts are put together.
+#![tactic(auto)]
+
+mod dumping;
+mod lines;
+
+pub use dumping::dump;
