@@ -1,5 +1,5 @@
 -- What the bytes come to, by what their script or their refusal came to.
-use Rattle.std.proofs.Common.{◌≡◌, ℕ, List, Option, Some, ◌⊎◌, inl, inr}
+use Rattle.std.proofs.Common.{◌≡◌, ℕ, List, Some, inl, inr}
 use Rattle.mp_script.specs.declared.statements.Script.{Script}
 use Rattle.mp_script.specs.Faults.{FaultAt, first_fault}
 use Rattle.mp_script.specs.OneSession.{IsPlain}

@@ -1,3 +1,6 @@
 mod Bytes
 mod Reading
-mod Words
+mod OneWord
+mod Refused
+mod SaidByCommands
+mod StillThere

@@ -1,11 +1,11 @@
 -- What the bytes that were read come to is what the call says.
-use Rattle.std.proofs.Common.{ℕ, ◌≤◌, List, length, Option, Some, None, sym, ap, subst, ◌∙◌, length-take, arith}
+use Rattle.std.proofs.Common.{ℕ, ◌≤◌, List, length, Option, Some, None, ap, ◌∙◌, length-take, arith}
 use Rattle.std.proofs.lemmas.List.{take_all, drop_all}
 use Rattle.mp_outside.specs.Sources.{Reads}
 use Rattle.mp_app.specs.declared.status.Status.{Status}
 use Rattle.mp_app.specs.declared.status.Status.TheVariants.{Done, Usage, Script as BadScript, Store, Stopped, Source, Sink, Disk, Memory}
-use Rattle.mp_app.specs.Calls.{Call, IsStep, ReadToItsEnd, ReadUpToTheBound}
-use Rattle.mp_app.specs.Outcomes.{Says, BytesSay}
+use Rattle.mp_app.specs.Calls.{SourceUse, ReadToItsEnd, ReadUpToTheBound}
+use Rattle.mp_app.specs.Outcomes.{StepSays, BytesSay}
 
 -- fewer bytes than were asked for are all
 pub all_read : (left still_left : Option (List ℕ)) (bytes : List ℕ) → Reads 1048577 left still_left bytes → length bytes ≤ 1048576 → ReadToItsEnd left still_left bytes
@@ -21,14 +21,14 @@ bound_read None still_left bytes reads = tt
 bound_read (Some input) None bytes reads = absurd reads
 bound_read (Some input) (Some rest) bytes reads = reads.0
 
--- the status and the text go with the call
-pub says_from_bytes : (call : Call) (bytes : List ℕ) (status : Status) (text : List ℕ) → IsStep call.words → Reads 1048577 call.left call.still_left bytes → BytesSay bytes status text → Says call status text
-says_from_bytes call bytes Done text step reads says = (step, record { bytes = bytes; script = says.0; read = all_read call.left call.still_left bytes reads says.1.size; spelled = says.1; plain = says.2; answered = says.3 })
-says_from_bytes call bytes Usage text step reads says = absurd says
-says_from_bytes call bytes BadScript text step reads says = (step, record { bytes = bytes; read = bound_read call.left call.still_left bytes reads; refused = says })
-says_from_bytes call bytes Store text step reads says = absurd says
-says_from_bytes call bytes Stopped text step reads says = absurd says
-says_from_bytes call bytes Source text step reads says = absurd says
-says_from_bytes call bytes Sink text step reads says = absurd says
-says_from_bytes call bytes Disk text step reads says = absurd says
-says_from_bytes call bytes Memory text step reads says = (step, says)
+-- the status and the text go with the source
+pub says_from_bytes : (source : SourceUse) (bytes : List ℕ) (status : Status) (text : List ℕ) → Reads 1048577 source.left source.still_left bytes → BytesSay bytes status text → StepSays source status text
+says_from_bytes source bytes Done text reads says = record { bytes = bytes; script = says.0; read = all_read source.left source.still_left bytes reads says.1.size; spelled = says.1; plain = says.2; answered = says.3 }
+says_from_bytes source bytes Usage text reads says = absurd says
+says_from_bytes source bytes BadScript text reads says = record { bytes = bytes; read = bound_read source.left source.still_left bytes reads; refused = says }
+says_from_bytes source bytes Store text reads says = absurd says
+says_from_bytes source bytes Stopped text reads says = absurd says
+says_from_bytes source bytes Source text reads says = absurd says
+says_from_bytes source bytes Sink text reads says = absurd says
+says_from_bytes source bytes Disk text reads says = absurd says
+says_from_bytes source bytes Memory text reads says = says

@@ -1,21 +1,31 @@
 -- One call of the program, as its contracts see it.
-use Rattle.std.specs.Prelude.{◌≡◌, ℕ, List, [], ◌∷◌, take, Option, Some, None, codes}
+use Rattle.std.specs.Prelude.{◌≡◌, ℕ, List, [], take, Option, Some, None}
 use Rattle.mp_model.specs.declared.histories.Opening.{Opening}
+use Rattle.mp_outside.specs.declared.disks.Disk as disks
+use Rattle.mp_outside.specs.declared.sources.Source as sources
+use Rattle.mp_files.specs.declared.disks.Disks.{Disks}
+use Rattle.mp_app.specs.Disks.{DiskUse, use_of}
 
--- the words after the program's name, and what the source had left before and after, where it tells
-pub record Call : Type 0 where
-  pub words : List (List ℕ)
+-- what was done with the source: what it had left before and after, where it tells, and its counts of faults
+pub record SourceUse : Type 0 where
   pub left : Option (List ℕ)
   pub still_left : Option (List ℕ)
   pub faults : ℕ
   pub faults_after : ℕ
 
-abbrev pub call_by : List (List ℕ) → Option (List ℕ) → Option (List ℕ) → ℕ → ℕ → Call
-call_by words left still_left faults faults_after = record { words = words; left = left; still_left = still_left; faults = faults; faults_after = faults_after }
+-- what a call did with the source and the disks
+pub record Call : Type 0 where
+  pub source : SourceUse
+  pub store : DiskUse
 
--- the words of the command that is built
-abbrev pub IsStep : List (List ℕ) → Type 0
-IsStep words = words ≡ codes "step" ∷ []
+abbrev pub read_of : {S : Type 0} → sources.Ghosts S → S → S → SourceUse
+read_of s old new = record { left = s.left old; still_left = s.left new; faults = s.faults old; faults_after = s.faults new }
+
+abbrev pub done_by : {D : Type 0} → disks.Ghosts D → SourceUse → Disks D → Disks D → Call
+done_by d source old new = record { source = source; store = use_of d old.store new.store }
+
+abbrev pub call_of : {S D : Type 0} → sources.Ghosts S → disks.Ghosts D → S → S → Disks D → Disks D → Call
+call_of s d source source' old new = done_by d (read_of s source source') old new
 
 -- these bytes are all that was left, and nothing is left behind them
 abbrev pub ReadToItsEnd : Option (List ℕ) → Option (List ℕ) → List ℕ → Type 0

@@ -1,4 +1,6 @@
 pub mod Texts
+pub mod Commands
+pub mod Disks
 pub mod Calls
-pub mod Outcomes
 pub mod Printed
+pub mod Outcomes

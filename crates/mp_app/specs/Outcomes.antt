@@ -1,5 +1,5 @@
 -- What each status means: when it comes, and which text goes with it.
-use Rattle.std.specs.Prelude.{◌≡◌, ◌⊎◌, ℕ, List, Option, Some, None}
+use Rattle.std.specs.Prelude.{◌≡◌, ◌⊎◌, ℕ, List, Option, Some, None, IsTrue}
 use Rattle.std.specs.Io.KnownBytes.{Appends}
 use Rattle.mp_model.specs.declared.histories.Opening.{Opening}
 use Rattle.mp_model.specs.declared.transcripts.Transcript.{Transcript}
@@ -13,8 +13,16 @@ use Rattle.mp_script.specs.OneSession.{IsPlain}
 use Rattle.mp_script.specs.Spelling.{Spells}
 use Rattle.mp_app.specs.declared.status.Status.{Status}
 use Rattle.mp_app.specs.declared.status.Status.TheVariants.{Done, Usage, Script as BadScript, Store, Stopped, Source, Sink, Disk, Memory}
-use Rattle.mp_app.specs.Calls.{Call, IsStep, ReadToItsEnd, ReadUpToTheBound, IsFresh}
-use Rattle.mp_app.specs.Texts.{usage_text, not_built_text, script_fault_text, source_fault_text, no_memory_text}
+use Rattle.mp_commands.specs.Dumps.{dump_text}
+use Rattle.mp_store.specs.StoreFiles.{first_fault as store_fault}
+use Rattle.mp_app.specs.declared.commands.Command.{Command}
+use Rattle.mp_app.specs.declared.commands.Command.TheVariants.{Session, Plain}
+use Rattle.mp_app.specs.declared.commands.PlainCommand.TheVariants.{Dump}
+use Rattle.mp_app.specs.declared.commands.SessionCommand.TheVariants.{Step}
+use Rattle.mp_app.specs.Calls.{SourceUse, Call, ReadToItsEnd, ReadUpToTheBound, IsFresh}
+use Rattle.mp_app.specs.Commands.{Names, NoCommand}
+use Rattle.mp_app.specs.Disks.{DiskUse}
+use Rattle.mp_app.specs.Texts.{usage_text, not_built_text, script_fault_text, source_fault_text, store_refused_text, store_failed_text, no_memory_text}
 
 -- the text is that of a transcript that is legal for the script over a fresh store
 pub record PrintsLegal (script : Script) (text : List ℕ) : Type 0 where
@@ -26,10 +34,10 @@ pub record PrintsLegal (script : Script) (text : List ℕ) : Type 0 where
 
 -- the source was read to its end, the bytes read spell a script of one primary and one session at most, and it
 -- is answered
-pub record AnswersItsScript (call : Call) (text : List ℕ) : Type 0 where
+pub record AnswersItsScript (source : SourceUse) (text : List ℕ) : Type 0 where
   pub bytes : List ℕ
   pub script : Script
-  pub read : ReadToItsEnd call.left call.still_left bytes
+  pub read : ReadToItsEnd source.left source.still_left bytes
   pub spelled : Spells bytes script
   pub plain : IsPlain script
   pub answered : PrintsLegal script text
@@ -48,34 +56,65 @@ pub record IsNotBuilt (bytes text : List ℕ) : Type 0 where
   pub printed : text ≡ not_built_text
 
 -- the bytes read, which are all or the first 1,048,577, are refused as a script
-pub record RefusesItsScript (call : Call) (text : List ℕ) : Type 0 where
+pub record RefusesItsScript (source : SourceUse) (text : List ℕ) : Type 0 where
   pub bytes : List ℕ
-  pub read : ReadUpToTheBound call.left bytes
+  pub read : ReadUpToTheBound source.left bytes
   pub refused : HasFault bytes text ⊎ IsNotBuilt bytes text
 
--- when a status comes, and its text
-abbrev pub Says : Call → Status → List ℕ → Type 0
-Says call Done text = IsStep call.words × AnswersItsScript call text
-Says call Usage text = (IsStep call.words → ⊥) × (text ≡ usage_text)
-Says call BadScript text = IsStep call.words × RefusesItsScript call text
-Says call Store text = ⊥
-Says call Stopped text = ⊥
-Says call Source text = IsStep call.words × Rose call.faults call.faults_after × (text ≡ source_fault_text)
-Says call Sink text = ⊥
-Says call Disk text = ⊥
-Says call Memory text = IsStep call.words × (text ≡ no_memory_text)
+-- when `step` ends with a status, and its text
+abbrev pub StepSays : SourceUse → Status → List ℕ → Type 0
+StepSays source Done text = AnswersItsScript source text
+StepSays source Usage text = ⊥
+StepSays source BadScript text = RefusesItsScript source text
+StepSays source Store text = ⊥
+StepSays source Stopped text = ⊥
+StepSays source Source text = Rose source.faults source.faults_after × (text ≡ source_fault_text)
+StepSays source Sink text = ⊥
+StepSays source Disk text = ⊥
+StepSays source Memory text = text ≡ no_memory_text
 
--- the text of this status was written whole
-pub record Writes (call : Call) (status : Status) (before after : Option (List ℕ)) : Type 0 where
+-- the text is that of the store, which is of the grammar; of a disk that doesn't tell its bytes nothing is said
+abbrev pub ShowsStore : DiskUse → List ℕ → Type 0
+ShowsStore store text = IsTrue store.tells → (store_fault store.seen ≡ None) × (text ≡ dump_text store.seen)
+
+-- the store is off the grammar first at the place that is printed
+pub record RefusesStore (store : DiskUse) (text : List ℕ) : Type 0 where
+  pub place : ℕ
+  pub first : IsTrue store.tells → store_fault store.seen ≡ Some place
+  pub printed : text ≡ store_refused_text place
+
+-- when `dump` ends with a status, and its text
+abbrev pub DumpSays : DiskUse → Status → List ℕ → Type 0
+DumpSays store Done text = ShowsStore store text
+DumpSays store Usage text = ⊥
+DumpSays store BadScript text = ⊥
+DumpSays store Store text = RefusesStore store text
+DumpSays store Stopped text = ⊥
+DumpSays store Source text = ⊥
+DumpSays store Sink text = ⊥
+DumpSays store Disk text = Rose store.faults store.faults_after × (text ≡ store_failed_text)
+DumpSays store Memory text = text ≡ no_memory_text
+
+-- when a command ends with a status, and its text
+abbrev pub CommandSays : Command → Call → Status → List ℕ → Type 0
+CommandSays (Session Step) call = StepSays call.source
+CommandSays (Plain Dump) call = DumpSays call.store
+
+-- words that name no command end with the usage text, others as their command says
+abbrev pub Says : List (List ℕ) → Call → Status → List ℕ → Type 0
+Says words call status text = (NoCommand words × (status ≡ Usage) × (text ≡ usage_text)) ⊎ ((command : Command) × Names words command × CommandSays command call status text)
+
+-- the text that goes with this status was written whole
+pub record Writes (says : Status → List ℕ → Type 0) (status : Status) (before after : Option (List ℕ)) : Type 0 where
   pub text : List ℕ
-  pub says : Says call status text
+  pub said : says status text
   pub written : Appends before after text
 
 -- a front of some status's text was written
-pub record WritesFront (call : Call) (before after : Option (List ℕ)) : Type 0 where
+pub record WritesFront (says : Status → List ℕ → Type 0) (before after : Option (List ℕ)) : Type 0 where
   pub status : Status
   pub text : List ℕ
-  pub says : Says call status text
+  pub said : says status text
   pub written : AppendsFront before after text
 
 -- what the bytes that were read come to

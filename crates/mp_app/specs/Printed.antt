@@ -1,9 +1,13 @@
 -- The bytes of a text that is to be printed.
 use Rattle.std.specs.Prelude.{◌≡◌, ℕ, List, ◌⊎◌}
 use Rattle.mp_script.specs.Faults.{FaultAt}
+use Rattle.mp_store.specs.declared.refusals.StoreRefusal.{StoreRefusal}
+use Rattle.mp_store.specs.declared.refusals.StoreRefusal.TheVariants.{NotStore, Disk as DiskRefused, Memory as MemoryRefused}
+use Rattle.mp_app.specs.declared.commands.WordsRefusal.{WordsRefusal}
+use Rattle.mp_app.specs.declared.commands.WordsRefusal.TheVariants.{Usage as NotRead, Memory as NoMemory}
 use Rattle.mp_app.specs.declared.output.Output.{Output}
-use Rattle.mp_app.specs.declared.status.Status.TheVariants.{Script, Memory}
-use Rattle.mp_app.specs.Texts.{script_fault_text, no_memory_text}
+use Rattle.mp_app.specs.declared.status.Status.TheVariants.{Usage, Script, Store, Disk, Memory}
+use Rattle.mp_app.specs.Texts.{usage_text, script_fault_text, store_refused_text, store_failed_text, log_failed_text, no_memory_text}
 use Rattle.mp_app.specs.declared.output.Printed.{Printed as PrintedText}
 use Rattle.mp_app.specs.declared.output.Printed.TheVariants.{Fixed, Made}
 
@@ -14,3 +18,17 @@ text_of (Made text) = text.items
 -- the fault is printed, or there was no memory
 abbrev pub SaysFault : FaultAt → Output → Type 0
 SaysFault found output = ((output.status ≡ Script) × (text_of output.printed ≡ script_fault_text found)) ⊎ ((output.status ≡ Memory) × (text_of output.printed ≡ no_memory_text))
+
+-- what a refusal of the store is printed as
+abbrev pub SaysRefusal : StoreRefusal → Output → Type 0
+SaysRefusal (NotStore place) output = ((output.status ≡ Store) × (text_of output.printed ≡ store_refused_text place)) ⊎ ((output.status ≡ Memory) × (text_of output.printed ≡ no_memory_text))
+SaysRefusal DiskRefused output = (output.status ≡ Disk) × (text_of output.printed ≡ store_failed_text)
+SaysRefusal MemoryRefused output = (output.status ≡ Memory) × (text_of output.printed ≡ no_memory_text)
+
+abbrev pub SaysLogFailed : ℕ → Output → Type 0
+SaysLogFailed primary output = ((output.status ≡ Disk) × (text_of output.printed ≡ log_failed_text primary)) ⊎ ((output.status ≡ Memory) × (text_of output.printed ≡ no_memory_text))
+
+-- what words that weren't read are answered
+abbrev pub SaysWordsRefusal : WordsRefusal → Output → Type 0
+SaysWordsRefusal NotRead output = (output.status ≡ Usage) × (text_of output.printed ≡ usage_text)
+SaysWordsRefusal NoMemory output = (output.status ≡ Memory) × (text_of output.printed ≡ no_memory_text)

@@ -14,5 +14,14 @@ script_fault_text found = codes "refused script fault " ++ decimal found.fault +
 abbrev pub source_fault_text : List ℕ
 source_fault_text = codes "fault source\n"
 
+abbrev pub store_refused_text : ℕ → List ℕ
+store_refused_text place = codes "refused store place " ++ decimal place ++ 10 ∷ []
+
+abbrev pub store_failed_text : List ℕ
+store_failed_text = codes "fault disk store\n"
+
+abbrev pub log_failed_text : ℕ → List ℕ
+log_failed_text primary = codes "fault disk log " ++ decimal primary ++ 10 ∷ []
+
 abbrev pub no_memory_text : List ℕ
 no_memory_text = codes "no memory\n"

@@ -1,31 +1,54 @@
-//! The program `mp`: several primaries over one page store. So far it runs scripts of one session.
+//! The program `mp`: several primaries over one page store. So far it runs scripts of one session, and prints the pages
+//! of a store.
 #![tactic(auto)]
 
 ghost use Rattle.std.specs.Prelude.{◌≢◌, IfErr};
 
+mod commands;
+mod naming;
+mod opening;
 mod output;
+mod plain;
+mod session;
 mod status;
 #[cfg(test)]
 mod tests;
 mod top;
+mod words;
 
+pub use commands::{Command, PlainCommand, SessionCommand, WordsRefusal};
 use mp_outside::{StdSink, StdSource};
+use naming::read_words;
+use opening::open_disks;
 use output::Output;
+pub use plain::plain_call;
+pub use session::session_call;
 pub use status::Status;
 use std::process::ExitCode;
 use std::{env, io};
 pub use top::{print, top};
 
 fn main(rt: HostRuntime) -> ExitCode {
+    let mut sink = StdSink::new(rt);
     let status = match words_of(&rt) {
-        Ok(words) => {
-            let mut source = StdSource::new(rt);
-            let mut sink = StdSink::new(rt);
-            top(rt.alloc(), &words, &mut source, &mut sink)
-        }
-        Err(output) => print(&output, &mut StdSink::new(rt)),
+        Ok(words) => call(rt, &words, &mut sink),
+        Err(output) => print(&output, &mut sink),
     };
     ExitCode::from(status.code())
+}
+
+// Does what the words ask for, over the files of the current folder. Words that are no command make no files.
+fn call(rt: HostRuntime, words: &[String], sink: &mut StdSink) -> Status {
+    if let Err(refusal) = read_words(rt.alloc(), words) {
+        return print(&Output::words_refusal(refusal), sink);
+    }
+    match open_disks(rt) {
+        Ok(mut disks) => {
+            let mut source = StdSource::new(rt);
+            top(rt.alloc(), words, &mut source, sink, &mut disks)
+        }
+        Err(output) => print(&output, sink),
+    }
 }
 
 // The words after the program's name. Where one isn't UTF-8 they are no command.

@@ -1,11 +1,14 @@
 //! What is to be printed, and the status that goes with it.
 
 ghost use Rattle.std.specs.Prelude.{◌≡◌, IfOk};
-ghost use Rattle.mp_app.specs.Printed.{text_of, SaysFault};
-ghost use Rattle.mp_app.specs.Texts.{usage_text, not_built_text, script_fault_text, source_fault_text, no_memory_text};
+ghost use Rattle.mp_store.specs.declared.refusals.StoreRefusal.TheVariants.{NotStore};
+ghost use Rattle.mp_app.specs.Printed.{text_of, SaysFault, SaysRefusal, SaysLogFailed, SaysWordsRefusal};
+ghost use Rattle.mp_app.specs.Texts.{usage_text, not_built_text, script_fault_text, source_fault_text, store_refused_text, store_failed_text, log_failed_text, no_memory_text};
 
+use crate::commands::WordsRefusal;
 use crate::status::Status;
 use mp_model::Text;
+use mp_store::StoreRefusal;
 use std::alloc::{AllocError, Global};
 
 /// A text: one of the program's own, or one that was made.
@@ -80,6 +83,64 @@ impl Output {
         }
     }
 
+    /// The store is refused. Where there is no memory for the text, that is what is said.
+    pub fn store_refusal(alloc: Global, refusal: StoreRefusal) -> Output
+        ensures { SaysRefusal refusal result }
+    {
+        match refusal {
+            StoreRefusal::NotStore { place } => Output::store_fault(alloc, place),
+            StoreRefusal::Disk => Output::store_failed(),
+            StoreRefusal::Memory => Output::no_memory(),
+        }
+    }
+
+    // The store is off its grammar at a place.
+    fn store_fault(alloc: Global, place: u64) -> Output
+        ensures { SaysRefusal (NotStore place) result }
+    {
+        match place_text(alloc, place) {
+            Ok(text) => Output {
+                status: Status::Store,
+                printed: Printed::Made(text),
+            },
+            Err(_) => Output::no_memory(),
+        }
+    }
+
+    /// The store's disk failed.
+    pub fn store_failed() -> Output
+        ensures status { result.status ≡ Status.Disk }
+        ensures text { text_of result.printed ≡ store_failed_text }
+    {
+        Output {
+            status: Status::Disk,
+            printed: Printed::Fixed(b"fault disk store\n"),
+        }
+    }
+
+    /// The disk of a primary's log failed. Where there is no memory for the text, that is what is said.
+    pub fn log_failed(alloc: Global, primary: u8) -> Output
+        ensures { SaysLogFailed primary result }
+    {
+        match log_text(alloc, primary) {
+            Ok(text) => Output {
+                status: Status::Disk,
+                printed: Printed::Made(text),
+            },
+            Err(_) => Output::no_memory(),
+        }
+    }
+
+    /// The words weren't read.
+    pub fn words_refusal(refusal: WordsRefusal) -> Output
+        ensures { SaysWordsRefusal refusal result }
+    {
+        match refusal {
+            WordsRefusal::Usage => Output::usage(),
+            WordsRefusal::Memory => Output::no_memory(),
+        }
+    }
+
     /// There was no memory.
     pub fn no_memory() -> Output
         ensures status { result.status ≡ Status.Memory }
@@ -96,5 +157,19 @@ fn fault_text(alloc: Global, fault: u8, line: u32) -> Result<Text, AllocError>
     ensures { IfOk result (λ text. text.items ≡ script_fault_text (record { fault = fault; line = line })) }
 {
     let text = format!(in alloc; "refused script fault {fault} line {line}\n")?;
+    Ok(Text::from_vec(text.into_bytes()))
+}
+
+fn place_text(alloc: Global, place: u64) -> Result<Text, AllocError>
+    ensures { IfOk result (λ text. text.items ≡ store_refused_text place) }
+{
+    let text = format!(in alloc; "refused store place {place}\n")?;
+    Ok(Text::from_vec(text.into_bytes()))
+}
+
+fn log_text(alloc: Global, primary: u8) -> Result<Text, AllocError>
+    ensures { IfOk result (λ text. text.items ≡ log_failed_text primary) }
+{
+    let text = format!(in alloc; "fault disk log {primary}\n")?;
     Ok(Text::from_vec(text.into_bytes()))
 }

@@ -1,9 +1,13 @@
-//! Whole calls of the program: scripts with what they print.
+//! Whole calls of the program: scripts and stores with what they print.
+
+ghost use Rattle.std.specs.Prelude.{◌≡◌, IfOk, length};
 
 use crate::status::Status;
 use crate::top::top;
+use mp_files::Disks;
 use mp_model::Memory;
-use mp_outside::{MemSink, MemSource};
+use mp_outside::{Disk, MemDisk, MemSink, MemSource};
+use mp_store::init;
 use std::alloc::Global;
 use std::test::Fail;
 
@@ -31,14 +35,50 @@ fn run(
     source_fails: &[u32],
     sink_fails: &[u32],
 ) -> Result<Ran, Memory> {
+    let mut source = MemSource::new(alloc, text.as_bytes(), source_fails)?;
+    let mut sink = MemSink::new(alloc, 100_000, sink_fails)?;
+    let words = words_of(alloc, command)?;
+    let mut disks = disks_of(alloc, MemDisk::new(alloc, &[], 0, &[])?)?;
+    let status = top(alloc, &words, &mut source, &mut sink, &mut disks);
+    Ok(Ran { status, sink })
+}
+
+// Runs a command on this store and empty logs.
+fn run_on(alloc: Global, command: &str, store: MemDisk) -> Result<Ran, Memory> {
+    let mut source = MemSource::new(alloc, &[], &[])?;
+    let mut sink = MemSink::new(alloc, 100_000, &[])?;
+    let words = words_of(alloc, &[command])?;
+    let mut disks = disks_of(alloc, store)?;
+    let status = top(alloc, &words, &mut source, &mut sink, &mut disks);
+    Ok(Ran { status, sink })
+}
+
+fn words_of(alloc: Global, command: &[&str]) -> Result<Vec<String>, Memory> {
     let mut words = Vec::new(alloc);
     for word in command {
         words.push(String::from_str(alloc, word)?)?;
     }
-    let mut source = MemSource::new(alloc, text.as_bytes(), source_fails)?;
-    let mut sink = MemSink::new(alloc, 100_000, sink_fails)?;
-    let status = top(alloc, &words, &mut source, &mut sink);
-    Ok(Ran { status, sink })
+    Ok(words)
+}
+
+// This store, and eight logs without batches.
+fn disks_of(alloc: Global, store: MemDisk) -> Result<Disks<MemDisk>, Memory>
+    ensures { IfOk result (λ disks. length disks.logs.items ≡ 8) }
+{
+    let mut logs = Vec::new(alloc);
+    for before in 0..8 {
+        logs.push(MemDisk::new(alloc, &[0], 1, &[])?)?;
+    }
+    Ok(Disks { store, logs })
+}
+
+// A fresh store, with these bytes at a place.
+fn store_with(alloc: Global, place: u64, bytes: &[u8]) -> Result<MemDisk, Fail> {
+    let mut store = MemDisk::new(alloc, &[], 8_519_808, &[])?;
+    if init(&mut store).is_err() || store.write_at(place, bytes).is_err() {
+        return Err(Fail::new("no store"));
+    }
+    Ok(store)
 }
 
 #[test]
@@ -80,7 +120,15 @@ fn scripts_print_their_transcripts(rt: HostRuntime) -> Result<(), Fail> {
 #[test]
 fn refusals_print_their_text(rt: HostRuntime) -> Result<(), Fail> {
     let usage = "usage: mp init, step, run, recover, dump, logs or gen N\n";
-    for words in [["step", "--fast"].as_slice(), &[], &["gen", "05"]] {
+    let rows = [
+        ["step", "--fast"].as_slice(),
+        &[],
+        &["gen", "05"],
+        &["help"],
+        &["--help"],
+        &["dump", "dump"],
+    ];
+    for words in rows {
         let ran = run(rt.alloc(), words, HEAD, &[], &[])?;
         assert!(rt; ran.status == Status::Usage);
         assert!(rt; ran.sink.written() == usage.as_bytes());
@@ -146,5 +194,29 @@ fn faults_give_their_status(rt: HostRuntime) -> Result<(), Fail> {
     let cut = run(rt.alloc(), &["step"], HEAD, &[], &[1])?;
     assert!(rt; cut.status == Status::Sink);
     assert!(rt; cut.sink.written().is_empty());
+    Ok(())
+}
+
+#[test]
+fn a_fresh_store_is_dumped(rt: HostRuntime) -> Result<(), Fail> {
+    let printed =
+        "store format 1 generation 1 base 0 llsn 0 version 0\npage 0 meta llsn 0 taken 2\npage 1 leaf llsn 0 low 0 high 4294967296 rows 0\nend pages 2\n";
+    let ran = run_on(rt.alloc(), "dump", store_with(rt.alloc(), 0, &[])?)?;
+    assert!(rt; ran.status == Status::Done);
+    assert!(rt; ran.sink.written() == printed.as_bytes());
+    Ok(())
+}
+
+#[test]
+fn stores_off_the_grammar_are_refused(rt: HostRuntime) -> Result<(), Fail> {
+    let wrong = run_on(rt.alloc(), "dump", store_with(rt.alloc(), 1, &[0])?)?;
+    assert!(rt; wrong.status == Status::Store);
+    assert!(rt; wrong.sink.written() == b"refused store place 1\n".as_slice());
+    let empty = run_on(rt.alloc(), "dump", MemDisk::new(rt.alloc(), &[], 0, &[])?)?;
+    assert!(rt; empty.status == Status::Store);
+    assert!(rt; empty.sink.written() == b"refused store place 0\n".as_slice());
+    let failed = run_on(rt.alloc(), "dump", MemDisk::new(rt.alloc(), &[], 0, &[1])?)?;
+    assert!(rt; failed.status == Status::Disk);
+    assert!(rt; failed.sink.written() == b"fault disk store\n".as_slice());
     Ok(())
 }

@@ -1,7 +1,7 @@
 -- Each answer of the parser gives its status and text.
 use Rattle.mp_script.proofs.Alone.{alone}
 use Rattle.mp_app.proofs.Bytes.{says_script, says_not_built, says_fault, says_memory}
-use Rattle.mp_app.proofs.top.answer_bytes.Goals as goal
+use Rattle.mp_app.proofs.session.answer_bytes.Goals as goal
 
 pub answer_script-requires : goal.answer_script-requires
 answer_script-requires c = alone c.args.bytes.now c.in-Ok.script c.in-Ok.ensures.found (c.is_plain.ensures.yes c.if-is_plain.true)

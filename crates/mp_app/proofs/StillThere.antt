@@ -1,0 +1,13 @@
+-- Disks that no call was made of are as before.
+use Rattle.std.proofs.Common.{◌≡◌, List, [], ◌∷◌, subst, sym}
+use Rattle.mp_outside.specs.declared.disks.Disk.{Ghosts}
+use Rattle.mp_outside.proofs.Quiets.{Quiet-refl}
+use Rattle.mp_files.specs.declared.disks.Disks.{Disks}
+use Rattle.mp_app.specs.Disks.{EachAsBefore, Untouched}
+
+pub each_as_before : {D : Type 0} (g : Ghosts D) (disks : List D) → EachAsBefore g disks disks
+each_as_before g [] = tt
+each_as_before g (disk ∷ disks) = (Quiet-refl, each_as_before g disks)
+
+pub untouched : {D : Type 0} (g : Ghosts D) (old new : Disks D) → new ≡ old → Untouched g old new
+untouched g old new same = subst (λ disks. Untouched g old disks) (sym same) (Quiet-refl, each_as_before g old.logs.items)

@@ -1,0 +1,26 @@
+-- The commands, and the words that name them.
+use Rattle.std.specs.Prelude.{◌≡◌, ℕ, List, [], ◌∷◌, codes, Result, Ok, Err}
+use Rattle.mp_app.specs.declared.commands.Command.{Command}
+use Rattle.mp_app.specs.declared.commands.Command.TheVariants.{Session, Plain}
+use Rattle.mp_app.specs.declared.commands.PlainCommand.TheVariants.{Dump}
+use Rattle.mp_app.specs.declared.commands.SessionCommand.TheVariants.{Step}
+use Rattle.mp_app.specs.declared.commands.WordsRefusal.{WordsRefusal}
+use Rattle.mp_app.specs.declared.commands.WordsRefusal.TheVariants.{Usage, Memory}
+
+abbrev pub word_of : Command → List ℕ
+word_of (Session Step) = codes "step"
+word_of (Plain Dump) = codes "dump"
+
+-- the words name this command
+abbrev pub Names : List (List ℕ) → Command → Type 0
+Names words command = words ≡ word_of command ∷ []
+
+-- the words name none
+abbrev pub NoCommand : List (List ℕ) → Type 0
+NoCommand words = (command : Command) → Names words command → ⊥
+
+-- what reading the words says
+abbrev pub Reads : List (List ℕ) → Result Command WordsRefusal → Type 0
+Reads words (Ok command) = Names words command
+Reads words (Err Usage) = NoCommand words
+Reads words (Err Memory) = (command : Command) × Names words command

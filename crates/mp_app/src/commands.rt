@@ -1,0 +1,31 @@
+//! The commands of the program.
+
+/// A command that runs a script's sessions.
+#[derive(Clone, Copy, Debug, PartialEq, Eq)]
+pub enum SessionCommand {
+    /// `step`: reads a script and answers it.
+    Step,
+}
+
+/// A command that runs no session.
+#[derive(Clone, Copy, Debug, PartialEq, Eq)]
+pub enum PlainCommand {
+    /// `dump`: prints the stored pages.
+    Dump,
+}
+
+/// What the words after the program's name ask for.
+#[derive(Clone, Copy, Debug, PartialEq, Eq)]
+pub enum Command {
+    Session(SessionCommand),
+    Plain(PlainCommand),
+}
+
+/// Why words weren't read.
+#[derive(Clone, Copy, Debug, PartialEq, Eq)]
+pub enum WordsRefusal {
+    /// They are no command.
+    Usage,
+    /// There was no memory.
+    Memory,
+}

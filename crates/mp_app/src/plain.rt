@@ -1,0 +1,65 @@
+//! The commands that run no session.
+
+ghost use Rattle.std.specs.Prelude.{◌≡◌, ◌≢◌, length};
+ghost use Rattle.mp_outside.specs.Faults.{Rose};
+ghost use Rattle.mp_app.specs.declared.commands.Command.TheVariants.{Plain};
+ghost use Rattle.mp_app.specs.Calls.{SourceUse, done_by, call_of};
+ghost use Rattle.mp_app.specs.Disks.{Untouched, AsBefore, use_of};
+ghost use Rattle.mp_app.specs.Outcomes.{CommandSays, DumpSays, Writes, WritesFront};
+ghost use Rattle.mp_app.specs.Printed.{text_of};
+
+use crate::commands::PlainCommand;
+use crate::output::{Output, Printed};
+use crate::status::Status;
+use crate::top::print;
+use mp_commands::dump;
+use mp_files::Disks;
+use mp_outside::{Disk, Sink, Source};
+use std::alloc::Global;
+
+/// Does a command that runs no session, as `top` does. There are eight logs. No source is read, and the disks keep what
+/// they hold.
+pub fn plain_call<S: Source, K: Sink, D: Disk>(
+    alloc: Global,
+    command: &PlainCommand,
+    source: &mut S,
+    sink: &mut K,
+    disks: &mut Disks<D>,
+) -> Status
+    requires eight { length disks.old.logs.items ≡ 8 }
+    ensures written { result ≢ Status.Sink
+        → Writes (CommandSays (Plain command.now) (call_of S.Source D.Disk source.old source.new disks.old disks.new)) result (K.written sink.old) (K.written sink.new) }
+    ensures cut { result ≡ Status.Sink
+        → WritesFront (CommandSays (Plain command.now) (call_of S.Source D.Disk source.old source.new disks.old disks.new)) (K.written sink.old) (K.written sink.new) }
+    ensures sink_failed { result ≡ Status.Sink → Rose (K.faults sink.old) (K.faults sink.new) }
+    ensures unread { source.new ≡ source.old }
+    ensures untouched { Untouched D.Disk disks.old disks.new }
+{
+    let output = answer(alloc, command, disks);
+    print(&output, sink)
+}
+
+// What a command comes to.
+fn answer<D: Disk>(alloc: Global, command: &PlainCommand, disks: &mut Disks<D>) -> Output
+    requires eight { length disks.old.logs.items ≡ 8 }
+    ensures says { (source : SourceUse) → CommandSays (Plain command.now) (done_by D.Disk source disks.old disks.new) result.status (text_of result.printed) }
+    ensures untouched { Untouched D.Disk disks.old disks.new }
+{
+    match command {
+        PlainCommand::Dump => answer_dump(alloc, &mut disks.store),
+    }
+}
+
+// What the store comes to.
+fn answer_dump<D: Disk>(alloc: Global, store: &mut D) -> Output
+    ensures says { DumpSays (use_of D.Disk store.old store.new) result.status (text_of result.printed) }
+    ensures untouched { AsBefore D.Disk store.old store.new }
+{
+    match dump(alloc, store) {
+        Ok(text) => Output {
+            status: Status::Done,
+            printed: Printed::Made(text),
+        },
+        Err(refusal) => Output::store_refusal(alloc, refusal),
+    }
+}
