@@ -1,3 +1,4 @@
 pub mod Pieces
 pub mod Sound
 pub mod Taken
+pub mod MadeLogs

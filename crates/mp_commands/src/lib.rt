@@ -3,6 +3,10 @@
 #![tactic(auto)]
 
 mod dumping;
+mod faults;
 mod lines;
+mod making;
 
 pub use dumping::dump;
+pub use faults::DiskFault;
+pub use making::init;

@@ -1,0 +1,9 @@
+-- The logs were made first, then the store.
+use Rattle.mp_commands.proofs.MadeLogs.{all_made}
+use Rattle.mp_commands.proofs.making.init.Goals as goal
+
+pub returns-in-Ok-clause-made : goal.returns-in-Ok-clause-made
+returns-in-Ok-clause-made g c = record {
+  store = λ tells. (c.in-Ok.ensures.fresh tells, c.in-Ok.ensures.safe tells);
+  logs = all_made g.D.Disk c.args.disks.now.logs.items c.reset_logs.new.logs.items c.in_ok-reset_logs.ensures.made;
+}
