@@ -66,7 +66,7 @@ fn disks_of(alloc: Global, store: MemDisk) -> Result<Disks<MemDisk>, Memory>
     ensures { IfOk result (λ disks. length disks.logs.items ≡ 8) }
 {
     let mut logs = Vec::new(alloc);
-    for before in 0..8 {
+    for before in 0..8usize {
         logs.push(MemDisk::new(alloc, &[0], 1, &[])?)?;
     }
     Ok(Disks { store, logs })
