@@ -4,7 +4,7 @@ use Rattle.mp_model.specs.declared.histories.Opening.{Opening}
 use Rattle.mp_outside.specs.declared.disks.Disk as disks
 use Rattle.mp_outside.specs.declared.sources.Source as sources
 use Rattle.mp_files.specs.declared.disks.Disks.{Disks}
-use Rattle.mp_app.specs.Disks.{DiskUse, use_of}
+use Rattle.mp_app.specs.Disks.{DiskUse, use_of, uses_of}
 
 -- what was done with the source: what it had left before and after, where it tells, and its counts of faults
 pub record SourceUse : Type 0 where
@@ -17,12 +17,13 @@ pub record SourceUse : Type 0 where
 pub record Call : Type 0 where
   pub source : SourceUse
   pub store : DiskUse
+  pub logs : List DiskUse
 
 abbrev pub read_of : {S : Type 0} → sources.Ghosts S → S → S → SourceUse
 read_of s old new = record { left = s.left old; still_left = s.left new; faults = s.faults old; faults_after = s.faults new }
 
 abbrev pub done_by : {D : Type 0} → disks.Ghosts D → SourceUse → Disks D → Disks D → Call
-done_by d source old new = record { source = source; store = use_of d old.store new.store }
+done_by d source old new = record { source = source; store = use_of d old.store new.store; logs = uses_of d old.logs.items new.logs.items }
 
 abbrev pub call_of : {S D : Type 0} → sources.Ghosts S → disks.Ghosts D → S → S → Disks D → Disks D → Call
 call_of s d source source' old new = done_by d (read_of s source source') old new

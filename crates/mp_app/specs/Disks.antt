@@ -15,6 +15,12 @@ module _ {D : Type 0} (g : Ghosts D) where
   abbrev pub use_of : D → D → DiskUse
   use_of old new = record { tells = g.tells old; seen = g.seen old; faults = g.faults old; faults_after = g.faults new }
 
+  -- of disks that stand in the same places
+  abbrev pub uses_of : List D → List D → List DiskUse
+  uses_of [] news = []
+  uses_of (old ∷ olds) [] = []
+  uses_of (old ∷ olds) (new ∷ news) = use_of old new ∷ uses_of olds news
+
   -- a disk reads as before, and a crash leaves nothing that it didn't leave before
   abbrev pub AsBefore : D → D → Type 0
   AsBefore old new = Quiet (g.seen old) (g.image old) (g.seen new) (g.image new)

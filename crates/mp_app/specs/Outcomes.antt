@@ -1,5 +1,5 @@
 -- What each status means: when it comes, and which text goes with it.
-use Rattle.std.specs.Prelude.{◌≡◌, ◌⊎◌, ℕ, List, Option, Some, None, IsTrue}
+use Rattle.std.specs.Prelude.{◌≡◌, ◌⊎◌, ℕ, List, Option, Some, None, IsTrue, ◌+◌, slice_get}
 use Rattle.std.specs.Io.KnownBytes.{Appends}
 use Rattle.mp_model.specs.declared.histories.Opening.{Opening}
 use Rattle.mp_model.specs.declared.transcripts.Transcript.{Transcript}
@@ -14,15 +14,17 @@ use Rattle.mp_script.specs.Spelling.{Spells}
 use Rattle.mp_app.specs.declared.status.Status.{Status}
 use Rattle.mp_app.specs.declared.status.Status.TheVariants.{Done, Usage, Script as BadScript, Store, Stopped, Source, Sink, Disk, Memory}
 use Rattle.mp_commands.specs.Dumps.{dump_text}
+use Rattle.mp_commands.specs.declared.faults.DiskFault.{DiskFault}
+use Rattle.mp_commands.specs.declared.faults.DiskFault.TheVariants.{Store as StoreFailed, Log as LogFailed}
 use Rattle.mp_store.specs.StoreFiles.{first_fault as store_fault}
 use Rattle.mp_app.specs.declared.commands.Command.{Command}
 use Rattle.mp_app.specs.declared.commands.Command.TheVariants.{Session, Plain}
-use Rattle.mp_app.specs.declared.commands.PlainCommand.TheVariants.{Dump}
+use Rattle.mp_app.specs.declared.commands.PlainCommand.TheVariants.{Init, Dump}
 use Rattle.mp_app.specs.declared.commands.SessionCommand.TheVariants.{Step}
 use Rattle.mp_app.specs.Calls.{SourceUse, Call, ReadToItsEnd, ReadUpToTheBound, IsFresh}
 use Rattle.mp_app.specs.Commands.{Names, NoCommand}
 use Rattle.mp_app.specs.Disks.{DiskUse}
-use Rattle.mp_app.specs.Texts.{usage_text, not_built_text, script_fault_text, source_fault_text, store_refused_text, store_failed_text, no_memory_text}
+use Rattle.mp_app.specs.Texts.{usage_text, not_built_text, script_fault_text, source_fault_text, store_refused_text, store_failed_text, disk_failed_text, ready_text, no_memory_text}
 
 -- the text is that of a transcript that is legal for the script over a fresh store
 pub record PrintsLegal (script : Script) (text : List ℕ) : Type 0 where
@@ -95,9 +97,33 @@ DumpSays store Sink text = ⊥
 DumpSays store Disk text = Rose store.faults store.faults_after × (text ≡ store_failed_text)
 DumpSays store Memory text = text ≡ no_memory_text
 
+-- the count of faults of this disk rose; the log of primary n has the place n - 1
+abbrev pub DiskRose : DiskFault → Call → Type 0
+DiskRose StoreFailed call = Rose call.store.faults call.store.faults_after
+DiskRose (LogFailed primary) call = (place : ℕ) × (primary ≡ place + 1) × ((log : DiskUse) → slice_get call.logs place ≡ Some log → Rose log.faults log.faults_after)
+
+-- a disk failed, and which one is printed
+pub record NamesDisk (call : Call) (text : List ℕ) : Type 0 where
+  pub fault : DiskFault
+  pub rose : DiskRose fault call
+  pub printed : text ≡ disk_failed_text fault
+
+-- when `init` ends with a status, and its text
+abbrev pub InitSays : Call → Status → List ℕ → Type 0
+InitSays call Done text = text ≡ ready_text
+InitSays call Usage text = ⊥
+InitSays call BadScript text = ⊥
+InitSays call Store text = ⊥
+InitSays call Stopped text = ⊥
+InitSays call Source text = ⊥
+InitSays call Sink text = ⊥
+InitSays call Disk text = NamesDisk call text
+InitSays call Memory text = text ≡ no_memory_text
+
 -- when a command ends with a status, and its text
 abbrev pub CommandSays : Command → Call → Status → List ℕ → Type 0
 CommandSays (Session Step) call = StepSays call.source
+CommandSays (Plain Init) call = InitSays call
 CommandSays (Plain Dump) call = DumpSays call.store
 
 -- words that name no command end with the usage text, others as their command says

@@ -1,13 +1,14 @@
 -- The bytes of a text that is to be printed.
 use Rattle.std.specs.Prelude.{◌≡◌, ℕ, List, ◌⊎◌}
 use Rattle.mp_script.specs.Faults.{FaultAt}
+use Rattle.mp_commands.specs.declared.faults.DiskFault.{DiskFault}
 use Rattle.mp_store.specs.declared.refusals.StoreRefusal.{StoreRefusal}
 use Rattle.mp_store.specs.declared.refusals.StoreRefusal.TheVariants.{NotStore, Disk as DiskRefused, Memory as MemoryRefused}
 use Rattle.mp_app.specs.declared.commands.WordsRefusal.{WordsRefusal}
 use Rattle.mp_app.specs.declared.commands.WordsRefusal.TheVariants.{Usage as NotRead, Memory as NoMemory}
 use Rattle.mp_app.specs.declared.output.Output.{Output}
 use Rattle.mp_app.specs.declared.status.Status.TheVariants.{Usage, Script, Store, Disk, Memory}
-use Rattle.mp_app.specs.Texts.{usage_text, script_fault_text, store_refused_text, store_failed_text, log_failed_text, no_memory_text}
+use Rattle.mp_app.specs.Texts.{usage_text, script_fault_text, store_refused_text, store_failed_text, log_failed_text, disk_failed_text, no_memory_text}
 use Rattle.mp_app.specs.declared.output.Printed.{Printed as PrintedText}
 use Rattle.mp_app.specs.declared.output.Printed.TheVariants.{Fixed, Made}
 
@@ -27,6 +28,10 @@ SaysRefusal MemoryRefused output = (output.status ≡ Memory) × (text_of output
 
 abbrev pub SaysLogFailed : ℕ → Output → Type 0
 SaysLogFailed primary output = ((output.status ≡ Disk) × (text_of output.printed ≡ log_failed_text primary)) ⊎ ((output.status ≡ Memory) × (text_of output.printed ≡ no_memory_text))
+
+-- what a disk that failed is printed as
+abbrev pub SaysDiskFault : DiskFault → Output → Type 0
+SaysDiskFault fault output = ((output.status ≡ Disk) × (text_of output.printed ≡ disk_failed_text fault)) ⊎ ((output.status ≡ Memory) × (text_of output.printed ≡ no_memory_text))
 
 -- what words that weren't read are answered
 abbrev pub SaysWordsRefusal : WordsRefusal → Output → Type 0

@@ -1,5 +1,7 @@
 -- The texts of the program that are no transcript, each ended by the byte 10.
 use Rattle.std.specs.Prelude.{ℕ, List, [], ◌∷◌, ◌++◌, codes, decimal}
+use Rattle.mp_commands.specs.declared.faults.DiskFault.{DiskFault}
+use Rattle.mp_commands.specs.declared.faults.DiskFault.TheVariants.{Store as StoreFailed, Log as LogFailed}
 use Rattle.mp_script.specs.Faults.{FaultAt}
 
 abbrev pub usage_text : List ℕ
@@ -22,6 +24,13 @@ store_failed_text = codes "fault disk store\n"
 
 abbrev pub log_failed_text : ℕ → List ℕ
 log_failed_text primary = codes "fault disk log " ++ decimal primary ++ 10 ∷ []
+
+abbrev pub disk_failed_text : DiskFault → List ℕ
+disk_failed_text StoreFailed = store_failed_text
+disk_failed_text (LogFailed primary) = log_failed_text primary
+
+abbrev pub ready_text : List ℕ
+ready_text = codes "ready\n"
 
 abbrev pub no_memory_text : List ℕ
 no_memory_text = codes "no memory\n"

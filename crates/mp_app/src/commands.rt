@@ -10,6 +10,8 @@ pub enum SessionCommand {
 /// A command that runs no session.
 #[derive(Clone, Copy, Debug, PartialEq, Eq)]
 pub enum PlainCommand {
+    /// `init`: makes a fresh store and eight logs without batches.
+    Init,
     /// `dump`: prints the stored pages.
     Dump,
 }

@@ -1,5 +1,5 @@
-//! The program `mp`: several primaries over one page store. So far it runs scripts of one session, and prints the pages
-//! of a store.
+//! The program `mp`: several primaries over one page store. So far it runs scripts of one session, makes a store
+//! with its logs, and prints the store's pages.
 #![tactic(auto)]
 
 ghost use Rattle.std.specs.Prelude.{◌≢◌, IfErr};

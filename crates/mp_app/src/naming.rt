@@ -40,6 +40,8 @@ fn command_named(word: &str) -> Option<Command>
 {
     if is_word(word, "step") {
         Some(Command::Session(SessionCommand::Step))
+    } else if is_word(word, "init") {
+        Some(Command::Plain(PlainCommand::Init))
     } else if is_word(word, "dump") {
         Some(Command::Plain(PlainCommand::Dump))
     } else {

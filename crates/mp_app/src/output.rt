@@ -2,11 +2,12 @@
 
 ghost use Rattle.std.specs.Prelude.{◌≡◌, IfOk};
 ghost use Rattle.mp_store.specs.declared.refusals.StoreRefusal.TheVariants.{NotStore};
-ghost use Rattle.mp_app.specs.Printed.{text_of, SaysFault, SaysRefusal, SaysLogFailed, SaysWordsRefusal};
-ghost use Rattle.mp_app.specs.Texts.{usage_text, not_built_text, script_fault_text, source_fault_text, store_refused_text, store_failed_text, log_failed_text, no_memory_text};
+ghost use Rattle.mp_app.specs.Printed.{text_of, SaysFault, SaysRefusal, SaysLogFailed, SaysDiskFault, SaysWordsRefusal};
+ghost use Rattle.mp_app.specs.Texts.{usage_text, not_built_text, script_fault_text, source_fault_text, store_refused_text, store_failed_text, log_failed_text, ready_text, no_memory_text};
 
 use crate::commands::WordsRefusal;
 use crate::status::Status;
+use mp_commands::DiskFault;
 use mp_model::Text;
 use mp_store::StoreRefusal;
 use std::alloc::{AllocError, Global};
@@ -128,6 +129,27 @@ impl Output {
                 printed: Printed::Made(text),
             },
             Err(_) => Output::no_memory(),
+        }
+    }
+
+    /// A disk failed. Where there is no memory for the text, that is what is said.
+    pub fn disk_fault(alloc: Global, fault: DiskFault) -> Output
+        ensures { SaysDiskFault fault result }
+    {
+        match fault {
+            DiskFault::Store => Output::store_failed(),
+            DiskFault::Log { primary } => Output::log_failed(alloc, primary),
+        }
+    }
+
+    /// The disks were made anew.
+    pub fn ready() -> Output
+        ensures status { result.status ≡ Status.Done }
+        ensures text { text_of result.printed ≡ ready_text }
+    {
+        Output {
+            status: Status::Done,
+            printed: Printed::Fixed(b"ready\n"),
         }
     }
 

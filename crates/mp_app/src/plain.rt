@@ -2,23 +2,23 @@
 
 ghost use Rattle.std.specs.Prelude.{◌≡◌, ◌≢◌, length};
 ghost use Rattle.mp_outside.specs.Faults.{Rose};
+ghost use Rattle.mp_commands.specs.Fresh.{Made};
 ghost use Rattle.mp_app.specs.declared.commands.Command.TheVariants.{Plain};
 ghost use Rattle.mp_app.specs.Calls.{SourceUse, done_by, call_of};
 ghost use Rattle.mp_app.specs.Disks.{Untouched, AsBefore, use_of};
-ghost use Rattle.mp_app.specs.Outcomes.{CommandSays, DumpSays, Writes, WritesFront};
+ghost use Rattle.mp_app.specs.Outcomes.{CommandSays, InitSays, DumpSays, Writes, WritesFront};
 ghost use Rattle.mp_app.specs.Printed.{text_of};
 
 use crate::commands::PlainCommand;
 use crate::output::{Output, Printed};
 use crate::status::Status;
 use crate::top::print;
-use mp_commands::dump;
+use mp_commands::{dump, init};
 use mp_files::Disks;
 use mp_outside::{Disk, Sink, Source};
 use std::alloc::Global;
 
-/// Does a command that runs no session, as `top` does. There are eight logs. No source is read, and the disks keep what
-/// they hold.
+/// Does a command that runs no session, as `top` does. There are eight logs. No source is read.
 pub fn plain_call<S: Source, K: Sink, D: Disk>(
     alloc: Global,
     command: &PlainCommand,
@@ -33,7 +33,9 @@ pub fn plain_call<S: Source, K: Sink, D: Disk>(
         → WritesFront (CommandSays (Plain command.now) (call_of S.Source D.Disk source.old source.new disks.old disks.new)) (K.written sink.old) (K.written sink.new) }
     ensures sink_failed { result ≡ Status.Sink → Rose (K.faults sink.old) (K.faults sink.new) }
     ensures unread { source.new ≡ source.old }
-    ensures untouched { Untouched D.Disk disks.old disks.new }
+    // `init` alone changes disks: where it ends with status 0, they are a fresh store and logs without batches.
+    ensures ready { result ≡ Status.Done → command.now ≡ PlainCommand.Init → Made D.Disk disks.old disks.new }
+    ensures untouched { command.now ≢ PlainCommand.Init → Untouched D.Disk disks.old disks.new }
 {
     let output = answer(alloc, command, disks);
     print(&output, sink)
@@ -43,10 +45,24 @@ pub fn plain_call<S: Source, K: Sink, D: Disk>(
 fn answer<D: Disk>(alloc: Global, command: &PlainCommand, disks: &mut Disks<D>) -> Output
     requires eight { length disks.old.logs.items ≡ 8 }
     ensures says { (source : SourceUse) → CommandSays (Plain command.now) (done_by D.Disk source disks.old disks.new) result.status (text_of result.printed) }
-    ensures untouched { Untouched D.Disk disks.old disks.new }
+    ensures ready { result.status ≡ Status.Done → command.now ≡ PlainCommand.Init → Made D.Disk disks.old disks.new }
+    ensures untouched { command.now ≢ PlainCommand.Init → Untouched D.Disk disks.old disks.new }
 {
     match command {
+        PlainCommand::Init => answer_init(alloc, disks),
         PlainCommand::Dump => answer_dump(alloc, &mut disks.store),
+    }
+}
+
+// What making the disks anew comes to.
+fn answer_init<D: Disk>(alloc: Global, disks: &mut Disks<D>) -> Output
+    requires eight { length disks.old.logs.items ≡ 8 }
+    ensures says { (source : SourceUse) → InitSays (done_by D.Disk source disks.old disks.new) result.status (text_of result.printed) }
+    ensures ready { result.status ≡ Status.Done → Made D.Disk disks.old disks.new }
+{
+    match init(disks) {
+        Ok(()) => Output::ready(),
+        Err(fault) => Output::disk_fault(alloc, fault),
     }
 }
 

@@ -220,3 +220,15 @@ fn stores_off_the_grammar_are_refused(rt: HostRuntime) -> Result<(), Fail> {
     assert!(rt; failed.sink.written() == b"fault disk store\n".as_slice());
     Ok(())
 }
+
+#[test]
+fn a_store_is_made(rt: HostRuntime) -> Result<(), Fail> {
+    let store = MemDisk::new(rt.alloc(), &[7; 3], 8_519_808, &[])?;
+    let ran = run_on(rt.alloc(), "init", store)?;
+    assert!(rt; ran.status == Status::Done);
+    assert!(rt; ran.sink.written() == b"ready\n".as_slice());
+    let failed = run_on(rt.alloc(), "init", MemDisk::new(rt.alloc(), &[], 0, &[1])?)?;
+    assert!(rt; failed.status == Status::Disk);
+    assert!(rt; failed.sink.written() == b"fault disk store\n".as_slice());
+    Ok(())
+}

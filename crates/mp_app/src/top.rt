@@ -5,12 +5,15 @@ ghost use Rattle.std.specs.Io.KnownBytes.{Appends};
 ghost use Rattle.mp_outside.specs.Faults.{Rose};
 ghost use Rattle.mp_outside.specs.Sinks.{AppendsFront};
 ghost use Rattle.mp_outside.specs.Sources.{TakesUpTo};
+ghost use Rattle.mp_commands.specs.Fresh.{Made};
+ghost use Rattle.mp_app.specs.declared.commands.Command.TheVariants.{Plain};
+ghost use Rattle.mp_app.specs.Commands.{Names};
 ghost use Rattle.mp_app.specs.Calls.{call_of};
 ghost use Rattle.mp_app.specs.Disks.{Untouched};
 ghost use Rattle.mp_app.specs.Outcomes.{Says, Writes, WritesFront};
 ghost use Rattle.mp_app.specs.Printed.{text_of};
 
-use crate::commands::Command;
+use crate::commands::{Command, PlainCommand};
 use crate::naming::read_words;
 use crate::output::Output;
 use crate::plain::plain_call;
@@ -21,9 +24,10 @@ use mp_outside::{Disk, Sink, Source, write_all};
 use std::alloc::Global;
 
 /// Does what the words after the program's name ask for. `step` reads a script from the source to its end, answers it
-/// over a fresh store, and prints the transcript. `dump` prints the pages of the store, and reads no source. The text is
-/// made whole before its first byte is written, and it is written once. There are eight logs. The disks keep what they
-/// hold.
+/// over a fresh store, and prints the transcript. `init` makes the disks a fresh store and eight logs without batches,
+/// and prints `ready`. `dump` prints the pages of the store. Only `step` reads the source, and only `init` changes disks;
+/// where it ends with another status than 0, nothing is promised of them but that they can be initialised again. The text
+/// is made whole before its first byte is written, and it is written once. There are eight logs.
 pub fn top<S: Source, K: Sink, D: Disk>(
     alloc: Global,
     words: &[String],
@@ -40,7 +44,9 @@ pub fn top<S: Source, K: Sink, D: Disk>(
         → WritesFront (Says (map string_bytes words.now) (call_of S.Source D.Disk source.old source.new disks.old disks.new)) (K.written sink.old) (K.written sink.new) }
     ensures sink_failed { result ≡ Status.Sink → Rose (K.faults sink.old) (K.faults sink.new) }
     ensures bound { TakesUpTo 1048577 (S.left source.old) (S.left source.new) }
-    ensures untouched { Untouched D.Disk disks.old disks.new }
+    // `init` alone changes disks: where it ends with status 0, they are a fresh store and logs without batches.
+    ensures ready { result ≡ Status.Done → Names (map string_bytes words.now) (Plain PlainCommand.Init) → Made D.Disk disks.old disks.new }
+    ensures untouched { ¬ Names (map string_bytes words.now) (Plain PlainCommand.Init) → Untouched D.Disk disks.old disks.new }
 {
     match read_words(alloc, words) {
         Ok(Command::Session(command)) => session_call(alloc, &command, source, sink, disks),
