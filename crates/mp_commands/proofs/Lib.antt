@@ -2,3 +2,5 @@ pub mod Pieces
 pub mod Sound
 pub mod Taken
 pub mod MadeLogs
+mod LogTexts
+mod LogsBelow

@@ -1,3 +1,4 @@
 pub mod Answers
 pub mod Dumps
 pub mod Fresh
+pub mod LogTexts

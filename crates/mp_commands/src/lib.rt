@@ -5,8 +5,12 @@
 mod dumping;
 mod faults;
 mod lines;
+mod log_printing;
 mod making;
+mod refusals;
 
 pub use dumping::dump;
 pub use faults::DiskFault;
+pub use log_printing::print_logs;
 pub use making::init;
+pub use refusals::LogsRefusal;

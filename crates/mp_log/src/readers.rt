@@ -1,6 +1,6 @@
 //! Reading a log mtr by mtr.
 
-ghost use Rattle.std.specs.Prelude.{◌≡◌, ◌≤◌, ◌++◌, [], ℕ, List, Option, None, Ok, Err, true, false, IsTrue, IfOk, length};
+ghost use Rattle.std.specs.Prelude.{◌≡◌, ◌≤◌, ◌++◌, [], ℕ, List, Option, None, Some, Ok, Err, true, false, IsTrue, IfOk, length};
 ghost use Rattle.mp_outside.specs.Disks.{Quiet};
 ghost use Rattle.mp_cells.specs.declared.records.Mtr.{Mtr};
 ghost use Rattle.mp_cells.specs.Mtrs.{IsMtr};
@@ -142,6 +142,7 @@ impl Reader {
     fn advance<D: Disk>(&mut self, disk: &mut D) -> Result<Option<Mtr>, LogRefusal>
         ensures tells { D.tells disk.new ≡ D.tells disk.old }
         ensures quiet { Quiet (D.seen disk.old) (D.image disk.old) (D.seen disk.new) (D.image disk.new) }
+        ensures state { self.new.state ≡ self.old.state }
         ensures exact { (mtrs : List Mtr) (fault : Option ℕ) → IsTrue (D.tells disk.old) → Remains self.old (D.seen disk.old) mtrs fault → Advances (D.seen disk.old) mtrs fault self.new result }
         ensures count { D.faults disk.old ≤ D.faults disk.new }
         ensures cause { HasCause (D.faults disk.old) (D.faults disk.new) result }
@@ -165,6 +166,8 @@ impl Reader {
         ensures quiet { Quiet (D.seen disk.old) (D.image disk.old) (D.seen disk.new) (D.image disk.new) }
         // Of what is left it gives the first, or says that nothing is, or names the fault.
         ensures gives { (mtrs : List Mtr) (fault : Option ℕ) → IsTrue (D.tells disk.old) → Remains self.old (D.seen disk.old) mtrs fault → GivesNext (D.seen disk.old) mtrs fault self.new result }
+        // After an mtr it goes on.
+        ensures goes_on { (mtr : Mtr) → result ≡ Ok (Some mtr) → self.new.state ≡ Reading }
         ensures ended { self.old.state ≡ Ended → (result ≡ Ok None) × (self.new ≡ self.old) }
         ensures refused { (refusal : LogRefusal) → self.old.state ≡ Refused refusal → (result ≡ Err refusal) × (self.new ≡ self.old) }
         ensures count { D.faults disk.old ≤ D.faults disk.new }
@@ -181,6 +184,7 @@ impl Reader {
     fn go_on<D: Disk>(&mut self, disk: &mut D) -> Result<Option<Mtr>, LogRefusal>
         ensures tells { D.tells disk.new ≡ D.tells disk.old }
         ensures quiet { Quiet (D.seen disk.old) (D.image disk.old) (D.seen disk.new) (D.image disk.new) }
+        ensures goes_on { (mtr : Mtr) → result ≡ Ok (Some mtr) → self.new.state ≡ self.old.state }
         ensures gives { (mtrs : List Mtr) (fault : Option ℕ) → IsTrue (D.tells disk.old) → Remains self.old (D.seen disk.old) mtrs fault → GivesNext (D.seen disk.old) mtrs fault self.new result }
         ensures count { D.faults disk.old ≤ D.faults disk.new }
         ensures cause { HasCause (D.faults disk.old) (D.faults disk.new) result }
