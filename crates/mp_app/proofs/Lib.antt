@@ -1,6 +1,7 @@
 mod Bytes
 mod Reading
 mod OneWord
+mod PrintedLogs
 mod Refused
 mod SaidByCommands
 mod StillThere

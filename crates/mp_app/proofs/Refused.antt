@@ -29,7 +29,7 @@ same_use : (a b : DiskUse) → Some a ≡ Some b → a ≡ b
 same_use a b h = cc
 
 -- what stands at a place of the uses is of the disks that stand there
-use_at : {D : Type 0} (g : Ghosts D) (olds news : List D) (place : ℕ) (log : DiskUse) → slice_get (uses_of g olds news) place ≡ Some log → At (FaultRose g) olds news place → Rose log.faults log.faults_after
+pub use_at : {D : Type 0} (g : Ghosts D) (olds news : List D) (place : ℕ) (log : DiskUse) → slice_get (uses_of g olds news) place ≡ Some log → At (FaultRose g) olds news place → Rose log.faults log.faults_after
 use_at g [] news zero log is rose = absurd (cc)
 use_at g [] news (suc place) log is rose = absurd (cc)
 use_at g (old ∷ olds) [] zero log is rose = absurd (cc)

@@ -3,7 +3,7 @@ use Rattle.std.proofs.Common.{◌≡◌, ◌∙◌, ℕ, List, [], ◌∷◌, Op
 use Rattle.mp_app.specs.declared.commands.Command.{Command}
 use Rattle.mp_app.specs.declared.commands.Command.TheVariants.{Session, Plain}
 use Rattle.mp_app.specs.declared.commands.PlainCommand.{PlainCommand}
-use Rattle.mp_app.specs.declared.commands.PlainCommand.TheVariants.{Init, Dump}
+use Rattle.mp_app.specs.declared.commands.PlainCommand.TheVariants.{Init, Dump, Logs}
 use Rattle.mp_app.specs.declared.commands.SessionCommand.{SessionCommand}
 use Rattle.mp_app.specs.declared.commands.SessionCommand.TheVariants.{Step}
 use Rattle.mp_app.specs.declared.commands.WordsRefusal.{WordsRefusal}
@@ -27,6 +27,7 @@ memory_said : (command : Command) (call : Call) (text : List ℕ) → text ≡ n
 memory_said (Session Step) call text is = is
 memory_said (Plain Init) call text is = is
 memory_said (Plain Dump) call text is = is
+memory_said (Plain Logs) call text is = is
 
 pub refusal_said : (words : List (List ℕ)) (call : Call) (refusal : WordsRefusal) (output : Output) → Reads words (Err refusal) → SaysWordsRefusal refusal output → Says words call output.status (text_of output.printed)
 refusal_said words call Usage output none says = inl (none, says.0, says.1)
@@ -37,6 +38,7 @@ sink_said : (command : Command) (call : Call) (text : List ℕ) → CommandSays 
 sink_said (Session Step) call text says = says
 sink_said (Plain Init) call text says = says
 sink_said (Plain Dump) call text says = says
+sink_said (Plain Logs) call text says = says
 
 pub never_sink : (command : Command) (call : Call) (status : Status) (text : List ℕ) → CommandSays command call status text → status ≡ Sink → ⊥
 never_sink command call status text says is = sink_said command call text (subst (λ s. CommandSays command call s text) is says)
@@ -59,6 +61,9 @@ init_named words Init is init = refl
 init_named words Dump is init =
     let same : codes "dump" ∷ [] ≡ codes "init" ∷ [] = sym is ∙ init in
     let bad : 100 ≡ 105 = ap letter {x = codes "dump" ∷ []} {y = codes "init" ∷ []} same in absurd (omega (arith, bad))
+init_named words Logs is init =
+    let same : codes "logs" ∷ [] ≡ codes "init" ∷ [] = sym is ∙ init in
+    let bad : 108 ≡ 105 = ap letter {x = codes "logs" ∷ []} {y = codes "init" ∷ []} same in absurd (omega (arith, bad))
 
 -- words that weren't read are never done
 no_usage : UsageStatus ≡ Done → {P : Type 0} → P

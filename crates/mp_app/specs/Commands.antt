@@ -2,7 +2,7 @@
 use Rattle.std.specs.Prelude.{◌≡◌, ℕ, List, [], ◌∷◌, codes, Result, Ok, Err}
 use Rattle.mp_app.specs.declared.commands.Command.{Command}
 use Rattle.mp_app.specs.declared.commands.Command.TheVariants.{Session, Plain}
-use Rattle.mp_app.specs.declared.commands.PlainCommand.TheVariants.{Init, Dump}
+use Rattle.mp_app.specs.declared.commands.PlainCommand.TheVariants.{Init, Dump, Logs}
 use Rattle.mp_app.specs.declared.commands.SessionCommand.TheVariants.{Step}
 use Rattle.mp_app.specs.declared.commands.WordsRefusal.{WordsRefusal}
 use Rattle.mp_app.specs.declared.commands.WordsRefusal.TheVariants.{Usage, Memory}
@@ -11,6 +11,7 @@ abbrev pub word_of : Command → List ℕ
 word_of (Session Step) = codes "step"
 word_of (Plain Init) = codes "init"
 word_of (Plain Dump) = codes "dump"
+word_of (Plain Logs) = codes "logs"
 
 -- the words name this command
 abbrev pub Names : List (List ℕ) → Command → Type 0

@@ -1,5 +1,5 @@
 -- What a call of the program did with the disks.
-use Rattle.std.specs.Prelude.{ℕ, Bool, List, [], ◌∷◌}
+use Rattle.std.specs.Prelude.{◌≡◌, ℕ, Bool, List, [], ◌∷◌, Option, Some, None, slice_get, IsTrue}
 use Rattle.mp_outside.specs.declared.disks.Disk.{Ghosts}
 use Rattle.mp_outside.specs.Disks.{Quiet}
 use Rattle.mp_files.specs.declared.disks.Disks.{Disks}
@@ -10,6 +10,19 @@ pub record DiskUse : Type 0 where
   pub seen : List ℕ
   pub faults : ℕ
   pub faults_after : ℕ
+
+-- each disk tells its bytes
+abbrev pub AllTell : List DiskUse → Type 0
+AllTell uses = (place : ℕ) (disk : DiskUse) → slice_get uses place ≡ Some disk → IsTrue disk.tells
+
+-- what a read gave of a disk, where there is one
+abbrev pub seen_by : Option DiskUse → List ℕ
+seen_by None = []
+seen_by (Some disk) = disk.seen
+
+-- what a read gave of the disk at each place
+abbrev pub seen_in : List DiskUse → ℕ → List ℕ
+seen_in uses place = seen_by (slice_get uses place)
 
 module _ {D : Type 0} (g : Ghosts D) where
   abbrev pub use_of : D → D → DiskUse

@@ -1,5 +1,5 @@
 -- What each status means: when it comes, and which text goes with it.
-use Rattle.std.specs.Prelude.{◌≡◌, ◌⊎◌, ℕ, List, Option, Some, None, IsTrue, ◌+◌, slice_get}
+use Rattle.std.specs.Prelude.{◌≡◌, ◌⊎◌, ℕ, List, Option, Some, None, IsTrue, ◌+◌, length, slice_get}
 use Rattle.std.specs.Io.KnownBytes.{Appends}
 use Rattle.mp_model.specs.declared.histories.Opening.{Opening}
 use Rattle.mp_model.specs.declared.transcripts.Transcript.{Transcript}
@@ -14,17 +14,18 @@ use Rattle.mp_script.specs.Spelling.{Spells}
 use Rattle.mp_app.specs.declared.status.Status.{Status}
 use Rattle.mp_app.specs.declared.status.Status.TheVariants.{Done, Usage, Script as BadScript, Store, Stopped, Source, Sink, Disk, Memory}
 use Rattle.mp_commands.specs.Dumps.{dump_text}
+use Rattle.mp_commands.specs.LogTexts.{LogFault, logs_text, fault_below}
 use Rattle.mp_commands.specs.declared.faults.DiskFault.{DiskFault}
 use Rattle.mp_commands.specs.declared.faults.DiskFault.TheVariants.{Store as StoreFailed, Log as LogFailed}
 use Rattle.mp_store.specs.StoreFiles.{first_fault as store_fault}
 use Rattle.mp_app.specs.declared.commands.Command.{Command}
 use Rattle.mp_app.specs.declared.commands.Command.TheVariants.{Session, Plain}
-use Rattle.mp_app.specs.declared.commands.PlainCommand.TheVariants.{Init, Dump}
+use Rattle.mp_app.specs.declared.commands.PlainCommand.TheVariants.{Init, Dump, Logs}
 use Rattle.mp_app.specs.declared.commands.SessionCommand.TheVariants.{Step}
 use Rattle.mp_app.specs.Calls.{SourceUse, Call, ReadToItsEnd, ReadUpToTheBound, IsFresh}
 use Rattle.mp_app.specs.Commands.{Names, NoCommand}
-use Rattle.mp_app.specs.Disks.{DiskUse}
-use Rattle.mp_app.specs.Texts.{usage_text, not_built_text, script_fault_text, source_fault_text, store_refused_text, store_failed_text, disk_failed_text, ready_text, no_memory_text}
+use Rattle.mp_app.specs.Disks.{DiskUse, AllTell, seen_in}
+use Rattle.mp_app.specs.Texts.{usage_text, not_built_text, script_fault_text, source_fault_text, store_refused_text, store_failed_text, log_failed_text, log_refused_text, disk_failed_text, ready_text, no_memory_text}
 
 -- the text is that of a transcript that is legal for the script over a fresh store
 pub record PrintsLegal (script : Script) (text : List ℕ) : Type 0 where
@@ -97,10 +98,14 @@ DumpSays store Sink text = ⊥
 DumpSays store Disk text = Rose store.faults store.faults_after × (text ≡ store_failed_text)
 DumpSays store Memory text = text ≡ no_memory_text
 
--- the count of faults of this disk rose; the log of primary n has the place n - 1
+-- the count of faults of a primary's log rose; the log of primary n has the place n - 1
+abbrev pub LogRose : ℕ → List DiskUse → Type 0
+LogRose primary logs = (place : ℕ) × (primary ≡ place + 1) × ((log : DiskUse) → slice_get logs place ≡ Some log → Rose log.faults log.faults_after)
+
+-- that of this disk did
 abbrev pub DiskRose : DiskFault → Call → Type 0
 DiskRose StoreFailed call = Rose call.store.faults call.store.faults_after
-DiskRose (LogFailed primary) call = (place : ℕ) × (primary ≡ place + 1) × ((log : DiskUse) → slice_get call.logs place ≡ Some log → Rose log.faults log.faults_after)
+DiskRose (LogFailed primary) call = LogRose primary call.logs
 
 -- a disk failed, and which one is printed
 pub record NamesDisk (call : Call) (text : List ℕ) : Type 0 where
@@ -120,11 +125,40 @@ InitSays call Sink text = ⊥
 InitSays call Disk text = NamesDisk call text
 InitSays call Memory text = text ≡ no_memory_text
 
+-- the text is that of the logs, which are of the grammar; of logs that don't tell their bytes nothing is said
+abbrev pub ShowsLogs : List DiskUse → List ℕ → Type 0
+ShowsLogs logs text = AllTell logs → (fault_below (seen_in logs) (length logs) ≡ None) × (text ≡ logs_text (seen_in logs) (length logs))
+
+-- the log that is printed is the first off the grammar, first at the place that is printed
+pub record RefusesLog (logs : List DiskUse) (text : List ℕ) : Type 0 where
+  pub fault : LogFault
+  pub first : AllTell logs → fault_below (seen_in logs) (length logs) ≡ Some fault
+  pub printed : text ≡ log_refused_text fault.primary fault.place
+
+-- a log's disk failed, and which one is printed
+pub record NamesLog (logs : List DiskUse) (text : List ℕ) : Type 0 where
+  pub primary : ℕ
+  pub rose : LogRose primary logs
+  pub printed : text ≡ log_failed_text primary
+
+-- when `logs` ends with a status, and its text
+abbrev pub LogsSays : List DiskUse → Status → List ℕ → Type 0
+LogsSays logs Done text = ShowsLogs logs text
+LogsSays logs Usage text = ⊥
+LogsSays logs BadScript text = ⊥
+LogsSays logs Store text = RefusesLog logs text
+LogsSays logs Stopped text = ⊥
+LogsSays logs Source text = ⊥
+LogsSays logs Sink text = ⊥
+LogsSays logs Disk text = NamesLog logs text
+LogsSays logs Memory text = text ≡ no_memory_text
+
 -- when a command ends with a status, and its text
 abbrev pub CommandSays : Command → Call → Status → List ℕ → Type 0
 CommandSays (Session Step) call = StepSays call.source
 CommandSays (Plain Init) call = InitSays call
 CommandSays (Plain Dump) call = DumpSays call.store
+CommandSays (Plain Logs) call = LogsSays call.logs
 
 -- words that name no command end with the usage text, others as their command says
 abbrev pub Says : List (List ℕ) → Call → Status → List ℕ → Type 0

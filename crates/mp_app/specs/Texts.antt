@@ -29,6 +29,9 @@ abbrev pub disk_failed_text : DiskFault → List ℕ
 disk_failed_text StoreFailed = store_failed_text
 disk_failed_text (LogFailed primary) = log_failed_text primary
 
+abbrev pub log_refused_text : ℕ → ℕ → List ℕ
+log_refused_text primary place = codes "refused log " ++ decimal primary ++ codes " place " ++ decimal place ++ 10 ∷ []
+
 abbrev pub ready_text : List ℕ
 ready_text = codes "ready\n"
 

@@ -14,6 +14,8 @@ pub enum PlainCommand {
     Init,
     /// `dump`: prints the stored pages.
     Dump,
+    /// `logs`: prints the mtrs of the logs.
+    Logs,
 }
 
 /// What the words after the program's name ask for.

@@ -1,5 +1,5 @@
 //! The program `mp`: several primaries over one page store. So far it runs scripts of one session, makes a store
-//! with its logs, and prints the store's pages.
+//! with its logs, and prints the store's pages and the logs' mtrs.
 #![tactic(auto)]
 
 ghost use Rattle.std.specs.Prelude.{◌≢◌, IfErr};

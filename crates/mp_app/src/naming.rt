@@ -44,6 +44,8 @@ fn command_named(word: &str) -> Option<Command>
         Some(Command::Plain(PlainCommand::Init))
     } else if is_word(word, "dump") {
         Some(Command::Plain(PlainCommand::Dump))
+    } else if is_word(word, "logs") {
+        Some(Command::Plain(PlainCommand::Logs))
     } else {
         None
     }

@@ -1,13 +1,14 @@
 //! What is to be printed, and the status that goes with it.
 
 ghost use Rattle.std.specs.Prelude.{◌≡◌, IfOk};
+ghost use Rattle.mp_commands.specs.declared.refusals.LogsRefusal.TheVariants.{Log};
 ghost use Rattle.mp_store.specs.declared.refusals.StoreRefusal.TheVariants.{NotStore};
-ghost use Rattle.mp_app.specs.Printed.{text_of, SaysFault, SaysRefusal, SaysLogFailed, SaysDiskFault, SaysWordsRefusal};
-ghost use Rattle.mp_app.specs.Texts.{usage_text, not_built_text, script_fault_text, source_fault_text, store_refused_text, store_failed_text, log_failed_text, ready_text, no_memory_text};
+ghost use Rattle.mp_app.specs.Printed.{text_of, SaysFault, SaysRefusal, SaysLogFailed, SaysDiskFault, SaysLogsRefusal, SaysWordsRefusal};
+ghost use Rattle.mp_app.specs.Texts.{usage_text, not_built_text, script_fault_text, source_fault_text, store_refused_text, store_failed_text, log_failed_text, log_refused_text, ready_text, no_memory_text};
 
 use crate::commands::WordsRefusal;
 use crate::status::Status;
-use mp_commands::DiskFault;
+use mp_commands::{DiskFault, LogsRefusal};
 use mp_model::Text;
 use mp_store::StoreRefusal;
 use std::alloc::{AllocError, Global};
@@ -142,6 +143,30 @@ impl Output {
         }
     }
 
+    /// The logs are refused. Where there is no memory for the text, that is what is said.
+    pub fn logs_refusal(alloc: Global, refusal: LogsRefusal) -> Output
+        ensures { SaysLogsRefusal refusal result }
+    {
+        match refusal {
+            LogsRefusal::Log { primary, place } => Output::log_fault(alloc, primary, place),
+            LogsRefusal::LogDisk { primary } => Output::log_failed(alloc, primary),
+            LogsRefusal::Memory => Output::no_memory(),
+        }
+    }
+
+    // A primary's log is off its grammar at a place.
+    fn log_fault(alloc: Global, primary: u8, place: u64) -> Output
+        ensures { SaysLogsRefusal (Log primary place) result }
+    {
+        match log_place_text(alloc, primary, place) {
+            Ok(text) => Output {
+                status: Status::Store,
+                printed: Printed::Made(text),
+            },
+            Err(_) => Output::no_memory(),
+        }
+    }
+
     /// The disks were made anew.
     pub fn ready() -> Output
         ensures status { result.status ≡ Status.Done }
@@ -193,5 +218,12 @@ fn log_text(alloc: Global, primary: u8) -> Result<Text, AllocError>
     ensures { IfOk result (λ text. text.items ≡ log_failed_text primary) }
 {
     let text = format!(in alloc; "fault disk log {primary}\n")?;
+    Ok(Text::from_vec(text.into_bytes()))
+}
+
+fn log_place_text(alloc: Global, primary: u8, place: u64) -> Result<Text, AllocError>
+    ensures { IfOk result (λ text. text.items ≡ log_refused_text primary place) }
+{
+    let text = format!(in alloc; "refused log {primary} place {place}\n")?;
     Ok(Text::from_vec(text.into_bytes()))
 }

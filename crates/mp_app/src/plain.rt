@@ -5,15 +5,15 @@ ghost use Rattle.mp_outside.specs.Faults.{Rose};
 ghost use Rattle.mp_commands.specs.Fresh.{Made};
 ghost use Rattle.mp_app.specs.declared.commands.Command.TheVariants.{Plain};
 ghost use Rattle.mp_app.specs.Calls.{SourceUse, done_by, call_of};
-ghost use Rattle.mp_app.specs.Disks.{Untouched, AsBefore, use_of};
-ghost use Rattle.mp_app.specs.Outcomes.{CommandSays, InitSays, DumpSays, Writes, WritesFront};
+ghost use Rattle.mp_app.specs.Disks.{Untouched, AsBefore, EachAsBefore, use_of, uses_of};
+ghost use Rattle.mp_app.specs.Outcomes.{CommandSays, InitSays, DumpSays, LogsSays, Writes, WritesFront};
 ghost use Rattle.mp_app.specs.Printed.{text_of};
 
 use crate::commands::PlainCommand;
 use crate::output::{Output, Printed};
 use crate::status::Status;
 use crate::top::print;
-use mp_commands::{dump, init};
+use mp_commands::{dump, init, print_logs};
 use mp_files::Disks;
 use mp_outside::{Disk, Sink, Source};
 use std::alloc::Global;
@@ -42,6 +42,7 @@ pub fn plain_call<S: Source, K: Sink, D: Disk>(
 }
 
 // What a command comes to.
+#[tactic(auto, using(crate::proofs::StillThere::store_untouched, crate::proofs::StillThere::logs_untouched))]
 fn answer<D: Disk>(alloc: Global, command: &PlainCommand, disks: &mut Disks<D>) -> Output
     requires eight { length disks.old.logs.items ≡ 8 }
     ensures says { (source : SourceUse) → CommandSays (Plain command.now) (done_by D.Disk source disks.old disks.new) result.status (text_of result.printed) }
@@ -51,6 +52,7 @@ fn answer<D: Disk>(alloc: Global, command: &PlainCommand, disks: &mut Disks<D>) 
     match command {
         PlainCommand::Init => answer_init(alloc, disks),
         PlainCommand::Dump => answer_dump(alloc, &mut disks.store),
+        PlainCommand::Logs => answer_logs(alloc, &mut disks.logs),
     }
 }
 
@@ -77,5 +79,20 @@ fn answer_dump<D: Disk>(alloc: Global, store: &mut D) -> Output
             printed: Printed::Made(text),
         },
         Err(refusal) => Output::store_refusal(alloc, refusal),
+    }
+}
+
+// What the logs come to.
+fn answer_logs<D: Disk>(alloc: Global, logs: &mut Vec<D>) -> Output
+    requires eight { length logs.old.items ≡ 8 }
+    ensures says { LogsSays (uses_of D.Disk logs.old.items logs.new.items) result.status (text_of result.printed) }
+    ensures untouched { EachAsBefore D.Disk logs.old.items logs.new.items }
+{
+    match print_logs(alloc, logs) {
+        Ok(text) => Output {
+            status: Status::Done,
+            printed: Printed::Made(text),
+        },
+        Err(refusal) => Output::logs_refusal(alloc, refusal),
     }
 }

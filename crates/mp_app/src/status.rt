@@ -1,8 +1,9 @@
 //! How the program ends.
 
-ghost use Rattle.std.specs.Prelude.{◌<◌};
+ghost use Rattle.std.specs.Prelude.{◌≡◌};
+ghost use Rattle.mp_app.specs.Codes.{code_of};
 
-/// How a call of the program ends. Its exit status is the variant's place, from 0.
+/// How a call of the program ends, each way with its exit status.
 #[derive(Clone, Copy, Debug, PartialEq, Eq)]
 pub enum Status {
     /// 0: the command did what it is for.
@@ -28,7 +29,7 @@ pub enum Status {
 impl Status {
     /// The exit status, 0 to 8.
     pub fn code(self) -> u8
-        ensures { result < 9 }
+        ensures { result ≡ code_of self }
     {
         self as u8
     }

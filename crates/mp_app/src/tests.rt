@@ -1,6 +1,6 @@
 //! Whole calls of the program: scripts and stores with what they print.
 
-ghost use Rattle.std.specs.Prelude.{◌≡◌, IfOk, length};
+ghost use Rattle.std.specs.Prelude.{◌≡◌, ◌≤◌, IfOk, length};
 
 use crate::status::Status;
 use crate::top::top;
@@ -45,12 +45,28 @@ fn run(
 
 // Runs a command on this store and empty logs.
 fn run_on(alloc: Global, command: &str, store: MemDisk) -> Result<Ran, Memory> {
+    run_over(alloc, command, disks_of(alloc, store)?)
+}
+
+// Runs a command on these disks.
+fn run_over(alloc: Global, command: &str, given: Disks<MemDisk>) -> Result<Ran, Memory>
+    requires { length given.logs.items ≡ 8 }
+{
+    let mut disks = given;
     let mut source = MemSource::new(alloc, &[], &[])?;
     let mut sink = MemSink::new(alloc, 100_000, &[])?;
     let words = words_of(alloc, &[command])?;
-    let mut disks = disks_of(alloc, store)?;
     let status = top(alloc, &words, &mut source, &mut sink, &mut disks);
     Ok(Ran { status, sink })
+}
+
+// Runs `logs` on a fresh store and logs without batches, but for the log of a primary, whose file is this.
+fn run_logs(alloc: Global, primary: usize, file: &[u8]) -> Result<Ran, Fail>
+    requires { 1 ≤ primary × primary ≤ 8 }
+{
+    let mut disks = disks_of(alloc, store_with(alloc, 0, &[])?)?;
+    disks.logs[primary - 1] = MemDisk::new(alloc, file, file.len() as u64, &[])?;
+    Ok(run_over(alloc, "logs", disks)?)
 }
 
 fn words_of(alloc: Global, command: &[&str]) -> Result<Vec<String>, Memory> {
@@ -230,5 +246,38 @@ fn a_store_is_made(rt: HostRuntime) -> Result<(), Fail> {
     let failed = run_on(rt.alloc(), "init", MemDisk::new(rt.alloc(), &[], 0, &[1])?)?;
     assert!(rt; failed.status == Status::Disk);
     assert!(rt; failed.sink.written() == b"fault disk store\n".as_slice());
+    Ok(())
+}
+
+#[test]
+fn logs_are_printed(rt: HostRuntime) -> Result<(), Fail> {
+    let commit = [
+        165, 27, 0, 0, 0, 1, 1, 2, 0, 0, 0, 0, 0, 0, 0, 10, 1, 0, 0, 0, 1, 0, 0, 0, 1, 0, 0, 0, 0,
+        0, 0, 0, 0,
+    ];
+    let others =
+        "log 2 mtrs 0\nlog 3 mtrs 0\nlog 4 mtrs 0\nlog 5 mtrs 0\nlog 6 mtrs 0\nlog 7 mtrs 0\nlog 8 mtrs 0\n";
+    let rows = [
+        ([0].as_slice(), "log 1 mtrs 0\n", "end mtrs 0\n"),
+        (
+            commit.as_slice(),
+            "log 1 mtrs 1\nmtr llsn 2 records 1\ncommit 1.0.1 at 1\n",
+            "end mtrs 1\n",
+        ),
+    ];
+    for (file, first, last) in rows {
+        let text = format!(in rt.alloc(); "{first}{others}{last}")?;
+        let ran = run_logs(rt.alloc(), 1, file)?;
+        assert!(rt; ran.status == Status::Done);
+        assert!(rt; ran.sink.written() == text.as_bytes());
+    }
+    Ok(())
+}
+
+#[test]
+fn logs_off_the_grammar_are_refused(rt: HostRuntime) -> Result<(), Fail> {
+    let ran = run_logs(rt.alloc(), 3, &[])?;
+    assert!(rt; ran.status == Status::Store);
+    assert!(rt; ran.sink.written() == b"refused log 3 place 0\n".as_slice());
     Ok(())
 }

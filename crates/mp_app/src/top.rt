@@ -25,7 +25,7 @@ use std::alloc::Global;
 
 /// Does what the words after the program's name ask for. `step` reads a script from the source to its end, answers it
 /// over a fresh store, and prints the transcript. `init` makes the disks a fresh store and eight logs without batches,
-/// and prints `ready`. `dump` prints the pages of the store. Only `step` reads the source, and only `init` changes disks;
+/// and prints `ready`. `dump` prints the pages of the store, `logs` the mtrs of the logs. Only `step` reads the source, and only `init` changes disks;
 /// where it ends with another status than 0, nothing is promised of them but that they can be initialised again. The text
 /// is made whole before its first byte is written, and it is written once. There are eight logs.
 pub fn top<S: Source, K: Sink, D: Disk>(
