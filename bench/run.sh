@@ -38,3 +38,8 @@ cat "$folder/out"
 
 echo "mp_bench, 100,000 mtrs of four records made, written and read: $(time_of crates/mp_bench/out/mp_bench mtrs 100000)"
 cat "$folder/out"
+
+echo "mp_bench, 100 times 200 transactions over a shared table, by one thread: $(time_of crates/mp_bench/out/mp_bench commits 100)"
+cat "$folder/out"
+echo "mp_bench, 100 times 800 transactions over a shared table, by four threads: $(time_of crates/mp_bench/out/mp_bench threads 100)"
+cat "$folder/out"
