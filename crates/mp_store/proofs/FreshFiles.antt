@@ -1,6 +1,6 @@
 -- A file of zeros with three sides written is a fresh store.
 use Rattle.std.proofs.Common.{◌≡◌, ◌⊎◌, inl, inr, ℕ, zero, suc, ◌+◌, ◌-◌, ◌*◌, ◌<◌, ◌≤◌, Bool, true, false, eqb, List, [], ◌∷◌, ◌++◌, length, take, drop, get_or, replicate, None, refl, sym, ap, ◌∙◌, subst, arith}
-use Rattle.std.proofs.lemmas.List.{length-replicate, take_all, drop_all, replicate-append-replicate, append-nil, get_or-drop}
+use Rattle.std.proofs.lemmas.List.{length-replicate, take_all, drop_all, replicate-append-replicate, append-nil, get_or-drop, nil_from_length}
 use Rattle.mp_outside.specs.Disks.{written}
 use Rattle.mp_cells.specs.Numbers.{number_at}
 use Rattle.mp_cells.specs.PageView.{PageView, IsPage, AreBits, blank_page}
@@ -19,15 +19,15 @@ use Rattle.mp_store.proofs.Outside.{part_same, part_written, written_outside}
 use Rattle.mp_store.proofs.NewSides.{Shows, page_shown, header_shown}
 use Rattle.mp_store.proofs.ShownAfter.{force, shown_by, page_of_home, home_is, file_home, header_of_home, header_home, header_by, second_shut, shut_counts, new_counts}
 
--- zeros after zeros
-pub zeros_more : (n m all : ℕ) (bytes : List ℕ) → bytes ≡ replicate m 0 → n + m ≡ all → written n bytes (zeros n) ≡ zeros all
+-- an empty file that is written one byte behind so many
+pub zeros_to : (n all : ℕ) (byte file : List ℕ) → byte ≡ replicate 1 0 → length file ≡ 0 → n + 1 ≡ all → written n byte file ≡ zeros all
 unfolding zeros
-zeros_more n m all bytes is sum =
-    let long : length (replicate {A = ℕ} n 0) ≡ n = length-replicate {A = ℕ} n 0 in
-    let front : take n (replicate {A = ℕ} n 0) ≡ replicate n 0 = take_all n (replicate {A = ℕ} n 0) (omega arith) in
-    let none : n - length (replicate {A = ℕ} n 0) ≡ 0 = omega arith in
-    let rest : drop (n + length bytes) (replicate {A = ℕ} n 0) ≡ [] = drop_all (n + length bytes) (replicate {A = ℕ} n 0) (omega arith) in
-    rw (front, none, rest, append-nil bytes, is, ← sum) (replicate-append-replicate n m 0)
+zeros_to n all byte file is empty sum =
+    let one : length byte ≡ 1 = ap length is ∙ length-replicate {A = ℕ} 1 0 in
+    let front : take n file ≡ [] = take_all n file (omega (arith, empty)) ∙ nil_from_length file empty in
+    let gap : n - length file ≡ n = omega (arith, empty) in
+    let rest : drop (n + length byte) file ≡ [] = drop_all (n + length byte) file (omega (arith, empty)) in
+    rw (front, gap, rest, append-nil byte, is, ← sum) (replicate-append-replicate n 1 0)
 
 pub map_spelled : (head : List ℕ) → head ≡ 1 ∷ 1 ∷ 2 ∷ 0 ∷ 0 ∷ 0 ∷ 0 ∷ 0 ∷ 0 ∷ 0 ∷ 0 ∷ 0 ∷ 0 ∷ 0 ∷ 0 ∷ 0 ∷ 0 ∷ 0 ∷ 0 ∷ 0 ∷ 0 ∷ 0 ∷ 0 ∷ 0 ∷ 0 ∷ 0 ∷ 0 ∷ 0 ∷ 0 ∷ 0 ∷ 0 ∷ 0 ∷ 3 ∷ []
     → head ++ replicate (1024 - length head) 0 ≡ spelling fresh_map
@@ -38,10 +38,6 @@ pub root_spelled : (head : List ℕ) → head ≡ 2 ∷ 1 ∷ 0 ∷ 0 ∷ 0 ∷ 
     → head ++ replicate (1024 - length head) 0 ≡ spelling fresh_root
 unfolding spelling header_bytes
 root_spelled head is = rw is refl
-
-pub zeros_none : zeros 0 ≡ []
-unfolding zeros
-zeros_none = refl
 
 -- ---- zeros are no open side
 

@@ -20,7 +20,7 @@ use mp_outside::Disk;
 use mp_page::{Kind, Page};
 
 /// The length of a store file.
-const LENGTH: u64 = 8_519_808;
+pub(crate) const LENGTH: u64 = 8_519_808;
 
 /// How many pages a store has.
 const PAGES: u16 = 4096;

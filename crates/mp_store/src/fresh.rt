@@ -9,6 +9,7 @@ ghost use Rattle.mp_store.specs.PageSides.{page_body};
 ghost use Rattle.mp_store.specs.SideWrites.{open_side};
 ghost use Rattle.mp_store.specs.FreshStores.{zeros, fresh_header, fresh_map, fresh_root, IsFresh};
 
+use crate::checking::LENGTH;
 use crate::header_sides::header_body;
 use crate::headers::Header;
 use crate::page_sides::side_body;
@@ -52,18 +53,14 @@ fn root_bytes() -> [u8; 1024]
     filled(&ROOT)
 }
 
-// Writes zeros into an empty file, to the length of a store.
+// Lengthens an empty file to the length of a store, with zeros: a write past the end leaves them before its place.
 fn write_zeros<D: Disk>(disk: &mut D) -> Result<(), Failed>
     ensures tells { D.tells disk.new ≡ D.tells disk.old }
     ensures blank { IsTrue (D.tells disk.old) → length (D.seen disk.old) ≡ 0 → OnOk result (D.seen disk.new ≡ zeros store_length) }
     ensures known { D.known disk.old ≤ D.known disk.new }
     ensures counts { Counts result (D.faults disk.old) (D.faults disk.new) }
 {
-    disk.write_at(0, &[0; 128])?;
-    for number in 0..4096 {
-        disk.write_at(page_place(number, Side::First), &[0; 2080])?;
-    }
-    Ok(())
+    disk.write_at(LENGTH - 1, &[0])
 }
 
 // Leaves a file of zeros, of the length of a store, and makes it safe.
