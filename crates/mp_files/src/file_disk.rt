@@ -1,6 +1,6 @@
 //! A disk on a file of the system.
 
-ghost use Rattle.std.specs.Prelude.{◌≡◌, ◌≤◌, ◌<◌, ◌^◌, IsTrue, Ok, length, IfOk};
+ghost use Rattle.std.specs.Prelude.{◌≡◌, ◌≤◌, ◌<◌, ◌^◌, IsTrue, Ok, length, IfOk, OnOk, OnErr};
 ghost use Rattle.mp_outside.specs.Faults.{one_more, Rose};
 ghost use Rattle.mp_outside.specs.Disks.{Counts};
 
@@ -21,7 +21,9 @@ pub enum FileRefusal {
 }
 
 /// A file of the system. It tells nothing of its content; that the system keeps what it is given isn't proved. Each
-/// failure of the system is counted, and no call is tried again but where a signal interrupted it.
+/// failure of the system is counted. After a sync that failed each call fails: the system may have given up what
+/// wasn't safe, and a later sync would answer Ok all the same. Nothing is tried again, but a write that a signal
+/// interrupts goes on.
 #[derive(Drop)]
 pub struct FileDisk {
     file: File,
@@ -29,14 +31,27 @@ pub struct FileDisk {
     calls: Calls,
 }
 
-/// How many calls there were, and how many of them failed.
+/// How many calls there were, how many of them failed, and whether a sync did.
 #[derive(Drop)]
 struct Calls {
     made: u64,
     faults: u64,
+    sync_failed: bool,
 }
 
 impl Calls {
+    /// Fails a call, and counts that, where a sync failed before.
+    fn begin(&mut self) -> Result<(), Failed>
+        ensures ready { OnOk result (self.new ≡ self.old) }
+        ensures made { OnErr result (self.new.made ≡ one_more self.old.made) }
+        ensures faults { Counts result self.old.faults self.new.faults }
+    {
+        if self.sync_failed {
+            return Err(self.fail());
+        }
+        Ok(())
+    }
+
     /// Counts a call, and its failure, if it failed.
     fn count<T: Drop>(&mut self, answer: io::Result<T>) -> Result<T, Failed>
         ensures made { self.new.made ≡ one_more self.old.made }
@@ -73,15 +88,18 @@ impl Calls {
 }
 
 impl FileDisk {
-    /// Opens the file of this name in the current folder, and makes an empty one where there is none.
+    /// Opens the file of this name in the current folder, and makes an empty one where there is none. It syncs the
+    /// folder, so that a crash doesn't lose a file that was made.
     pub fn open(rt: HostRuntime, name: &str) -> Result<FileDisk, FileRefusal> {
-        let mut options = OpenOptions::new();
-        options.read(true).write(true).create(true);
-        match options.open(&rt, name) {
+        match open_safely(rt, name) {
             Ok(file) => Ok(FileDisk {
                 file,
                 known: 0,
-                calls: Calls { made: 0, faults: 0 },
+                calls: Calls {
+                    made: 0,
+                    faults: 0,
+                    sync_failed: false,
+                },
             }),
             Err(error) if error.kind() == ErrorKind::OutOfMemory => Err(FileRefusal::Memory),
             Err(_) => Err(FileRefusal::Failed),
@@ -108,12 +126,14 @@ impl Disk for FileDisk {
     ghost calls = { λ disk. disk.calls.made };
 
     fn length(&mut self) -> Result<u64, Failed> {
+        self.calls.begin()?;
         let size = self.calls.count(size_of(&self.file))?;
         self.known = size;
         Ok(size)
     }
 
     fn read(&mut self, place: u64, into: &mut [u8]) -> Result<usize, Failed> {
+        self.calls.begin()?;
         let asked = place < self.known && !into.is_empty();
         match read_at(&self.file, place, into, asked) {
             Ok(count) => {
@@ -125,17 +145,34 @@ impl Disk for FileDisk {
     }
 
     fn write_at(&mut self, place: u64, bytes: &[u8]) -> Result<(), Failed> {
+        self.calls.begin()?;
+        if place > MOST || bytes.len() as u64 > MOST - place {
+            return Err(self.calls.fail());
+        }
         self.calls.count(self.file.write_all_at(bytes, place))
     }
 
     fn cut(&mut self, size: u64) -> Result<(), Failed> {
+        self.calls.begin()?;
         self.known = self.known.min(size);
         self.calls.count(cut_to(&self.file, size))
     }
 
     fn sync(&mut self) -> Result<(), Failed> {
-        self.calls.count(self.file.sync_all())
+        self.calls.begin()?;
+        let done = self.calls.count(self.file.sync_all());
+        self.calls.sync_failed = done.is_err();
+        done
     }
+}
+
+// The file of this name, made where there is none, in a folder that is safe.
+fn open_safely(rt: HostRuntime, name: &str) -> io::Result<File> {
+    let mut options = OpenOptions::new();
+    options.read(true).write(true).create(true);
+    let file = options.open(&rt, name)?;
+    File::open(&rt, ".")?.sync_all()?;
+    Ok(file)
 }
 
 // The file's length, which is an error where it is above what a file may have.

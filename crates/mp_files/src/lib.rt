@@ -3,9 +3,11 @@
 
 mod disks;
 mod file_disk;
+mod laws;
 
 pub use disks::Disks;
 pub use file_disk::{FileDisk, FileRefusal};
+pub use laws::law_nine;
 
 #[cfg(test)]
 mod tests;

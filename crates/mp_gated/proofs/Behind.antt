@@ -1,12 +1,7 @@
--- Calls made in two parts, and a fact that holds whatever a result is.
-use Rattle.std.proofs.Common.{ℕ, ◌+◌, Result, Ok, Err, OnErr, arith}
-use Rattle.mp_gated.specs.Gates.{Made}
+-- Calls made in two parts.
+use Rattle.std.proofs.Common.{ℕ, ◌+◌, arith}
+use Rattle.mp_gated.specs.Gates.{CallsMade}
 
 -- one part of the calls, and then another
-pub Made-trans : {first second old mid new : ℕ} → Made first old mid → Made second mid new → Made (first + second) old new
-Made-trans a b = record { made = a.made + b.made; some = omega arith; within = omega arith; counted = omega arith }
-
--- what holds in any case holds on a refusal
-pub on_err : {T E P : Type 0} (result : Result T E) → P → OnErr result P
-on_err (Ok done) fact = tt
-on_err (Err e) fact = fact
+pub CallsMade-trans : {first second old mid new : ℕ} → CallsMade first old mid → CallsMade second mid new → CallsMade (first + second) old new
+CallsMade-trans a b = record { made = a.made + b.made; some = omega arith; within = omega arith; counted = omega arith }

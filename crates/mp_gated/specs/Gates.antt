@@ -7,7 +7,7 @@ abbrev pub calls_after : ℕ → ℕ → ℕ
 calls_after made calls = min (calls + made) (2 ^ 64 - 1)
 
 -- at least one call was made, and at most so many
-pub record Made (most old new : ℕ) : Type 0 where
+pub record CallsMade (most old new : ℕ) : Type 0 where
   pub made : ℕ
   pub some : 1 ≤ made
   pub within : made ≤ most

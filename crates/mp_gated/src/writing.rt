@@ -2,7 +2,7 @@
 
 ghost use Rattle.std.specs.Prelude.{◌≡◌, ◌⊎◌, ◌+◌, ◌-◌, ◌<◌, ◌≤◌, ◌^◌, IsTrue, ◌∷◌, [], length, OnOk, OnErr};
 ghost use Rattle.mp_outside.specs.Disks.{written, first_changed, Torn, Follows, Only, Counts};
-ghost use Rattle.mp_gated.specs.Gates.{calls_after, Made, BodyTorn, GateTorn, gated, Gating};
+ghost use Rattle.mp_gated.specs.Gates.{calls_after, CallsMade, BodyTorn, GateTorn, gated, Gating};
 
 use mp_outside::{Disk, Failed};
 
@@ -12,16 +12,18 @@ const OPEN: u8 = 165;
 /// Writes bytes at a place and makes them safe, by two calls, the second only after the first answered Ok. It is
 /// refused where one of them is; until then a crash may leave any bytes in the range that was written.
 pub fn write_safely<D: Disk>(disk: &mut D, place: u64, bytes: &[u8]) -> Result<(), Failed>
+    requires { 0 < length bytes.now }
     ensures tells { D.tells disk.new ≡ D.tells disk.old }
+    ensures bounded { OnOk result (place + length bytes.now < 2 ^ 63) }
     ensures written { IsTrue (D.tells disk.old) → OnOk result (D.seen disk.new ≡ written place bytes.now (D.seen disk.old)) }
     ensures safe { IsTrue (D.tells disk.old) → OnOk result (Only (written place bytes.now (D.seen disk.old)) (D.image disk.new)) }
-    ensures in_part { IsTrue (D.tells disk.old) → OnErr result
-        (Torn (first_changed place (D.seen disk.old)) (place + length bytes.now) (D.seen disk.old) (D.seen disk.new)) }
+    ensures in_part { IsTrue (D.tells disk.old)
+        → Torn (first_changed place (D.seen disk.old)) (place + length bytes.now) (D.seen disk.old) (D.seen disk.new) }
     ensures images { IsTrue (D.tells disk.old) → Follows
         (Torn (first_changed place (D.seen disk.old)) (place + length bytes.now)) (D.image disk.old) (D.image disk.new) }
     ensures known { D.known disk.old ≤ D.known disk.new }
     ensures counts { Counts result (D.faults disk.old) (D.faults disk.new) }
-    ensures calls { Made 2 (D.calls disk.old) (D.calls disk.new) }
+    ensures calls { CallsMade 2 (D.calls disk.old) (D.calls disk.new) }
     ensures both { OnOk result (D.calls disk.new ≡ calls_after 2 (D.calls disk.old)) }
 {
     disk.write_at(place, bytes)?;
@@ -32,8 +34,10 @@ pub fn write_safely<D: Disk>(disk: &mut D, place: u64, bytes: &[u8]) -> Result<(
 /// calls, each only after the one before answered Ok. It is refused where one of them is. Where fewer than three calls
 /// were made, the gate is as it was.
 pub fn write_gated<D: Disk>(disk: &mut D, gate: u64, body: &[u8]) -> Result<(), Failed>
-    requires { gate + 1 + length body.now < 2 ^ 64 }
+    requires some { 0 < length body.now }
+    requires end { gate + 1 + length body.now < 2 ^ 64 }
     ensures tells { D.tells disk.new ≡ D.tells disk.old }
+    ensures bounded { OnOk result (gate + 1 + length body.now < 2 ^ 63) }
     ensures done { IsTrue (D.tells disk.old) → gate < length (D.seen disk.old)
         → OnOk result (D.seen disk.new ≡ gated gate body.now (D.seen disk.old)) }
     ensures safe { IsTrue (D.tells disk.old) → gate < length (D.seen disk.old)
@@ -46,7 +50,7 @@ pub fn write_gated<D: Disk>(disk: &mut D, gate: u64, body: &[u8]) -> Result<(), 
         → Follows (BodyTorn gate body.now) (D.image disk.old) (D.image disk.new) }
     ensures known { D.known disk.old ≤ D.known disk.new }
     ensures counts { Counts result (D.faults disk.old) (D.faults disk.new) }
-    ensures calls { Made 4 (D.calls disk.old) (D.calls disk.new) }
+    ensures calls { CallsMade 4 (D.calls disk.old) (D.calls disk.new) }
     ensures all { OnOk result (D.calls disk.new ≡ calls_after 4 (D.calls disk.old)) }
 {
     write_safely(disk, gate + 1, body)?;

@@ -5,7 +5,7 @@ use Rattle.std.proofs.lemmas.Bool.{cases_lt}
 use Rattle.mp_outside.specs.Calls.{Calls}
 use Rattle.mp_outside.specs.Disks.{written, first_changed, Torn, Cut, Follows, Only}
 use Rattle.mp_outside.specs.Marks.{mark_at, marked}
-use Rattle.mp_outside.specs.MemDisks.{MemDiskState, Image, settled, after_write, after_call}
+use Rattle.mp_outside.specs.MemDisks.{MemDiskState, MemImage, settled, after_write, after_call}
 use Rattle.mp_outside.specs.declared.marks.Mark.{Mark}
 use Rattle.mp_outside.specs.declared.marks.Mark.TheVariants.{Untouched}
 use Rattle.mp_outside.proofs.Overlays.{over, take-over, drop-over, get_or-over_out, get_or-over_in}
@@ -19,13 +19,13 @@ pub Cut-refl : (size : ℕ) (file : List ℕ) → Cut size file file
 Cut-refl size file = record { no_shorter = omega arith; front = sym (take_all (length file) file (omega arith)) }
 
 -- a call that changed no byte
-pub call_tears : (disk : MemDiskState) (calls : Calls) (from to : ℕ) → Follows (Torn from to) (Image disk) (Image (after_call disk calls))
+pub call_tears : (disk : MemDiskState) (calls : Calls) (from to : ℕ) → Follows (Torn from to) (MemImage disk) (MemImage (after_call disk calls))
 call_tears disk calls from to c (inl seen) = (c, inl seen, Torn-refl from to c)
-call_tears disk calls from to c (inr h) = (c, inr (record { size = h.size; untouched = h.untouched }), Torn-refl from to c)
+call_tears disk calls from to c (inr h) = (c, inr (record { least = h.least; most = h.most; untouched = h.untouched }), Torn-refl from to c)
 
-pub call_cuts : (disk : MemDiskState) (calls : Calls) (size : ℕ) → Follows (Cut size) (Image disk) (Image (after_call disk calls))
+pub call_cuts : (disk : MemDiskState) (calls : Calls) (size : ℕ) → Follows (Cut size) (MemImage disk) (MemImage (after_call disk calls))
 call_cuts disk calls size c (inl seen) = (c, inl seen, Cut-refl size c)
-call_cuts disk calls size c (inr h) = (c, inr (record { size = h.size; untouched = h.untouched }), Cut-refl size c)
+call_cuts disk calls size c (inr h) = (c, inr (record { least = h.least; most = h.most; untouched = h.untouched }), Cut-refl size c)
 
 -- the synced bytes of a range, with zeros past their end
 synced_part : (synced : List ℕ) (from n : ℕ) → List ℕ
@@ -50,35 +50,36 @@ get_or-synced_part synced from n k lt =
     get_or-take n (drop from (synced ++ replicate {A = ℕ} (from + n) 0)) k 0 lt ∙ get_or-drop from (synced ++ replicate {A = ℕ} (from + n) 0) k 0 ∙ past_end_by synced (from + n) (from + k) (cases_lt (from + k) (length synced))
 
 -- a cut
-cut_long : (disk : MemDiskState) (size : ℕ) (c : List ℕ) → length c ≡ min size (length disk.seen)
+cut_long : (disk : MemDiskState) (size : ℕ) (c : List ℕ) → disk.least ≤ disk.most → size ≤ length c → length c < disk.least
     → ((place : ℕ) → place < length c → mark_at disk.marks place ≡ Untouched → get_or c place 0 ≡ get_or disk.synced place 0)
-    → (d : List ℕ) × Image disk d × Cut size d c
-cut_long disk size c long untouched =
-    let rest = synced_part disk.synced (length c) (length disk.seen - length c) in
-    let rest_long = length-synced_part disk.synced (length c) (length disk.seen - length c) in
-    let all : length (c ++ rest) ≡ length disk.seen = omega (arith, length-append c rest) in (
+    → (d : List ℕ) × MemImage disk d × Cut size d c
+cut_long disk size c bounds long short untouched =
+    let rest = synced_part disk.synced (length c) (disk.least - length c) in
+    let rest_long = length-synced_part disk.synced (length c) (disk.least - length c) in
+    let all : length (c ++ rest) ≡ disk.least = omega (arith, length-append c rest) in (
       c ++ rest,
       inr (record {
-        size = inl all;
+        least = omega (arith, all);
+        most = omega (arith, all, bounds);
         untouched = λ place lt is. by_place place (omega arith) is (cases_lt place (length c));
       }),
       record { no_shorter = omega arith; front = sym (take_at c rest (length c) refl) },
     ) where
-      by_place : (place : ℕ) → place < length disk.seen → mark_at disk.marks place ≡ Untouched → (place < length c) ⊎ (length c ≤ place)
-          → get_or (c ++ synced_part disk.synced (length c) (length disk.seen - length c)) place 0 ≡ get_or disk.synced place 0
-      by_place place lt is (inl below) = get_or_append_left c (synced_part disk.synced (length c) (length disk.seen - length c)) 0 place below ∙ untouched place below is
+      by_place : (place : ℕ) → place < disk.least → mark_at disk.marks place ≡ Untouched → (place < length c) ⊎ (length c ≤ place)
+          → get_or (c ++ synced_part disk.synced (length c) (disk.least - length c)) place 0 ≡ get_or disk.synced place 0
+      by_place place lt is (inl below) = get_or_append_left c (synced_part disk.synced (length c) (disk.least - length c)) 0 place below ∙ untouched place below is
       by_place place lt is (inr above) =
-          get_or-append_right c (synced_part disk.synced (length c) (length disk.seen - length c)) (length c) place 0 refl above
-          ∙ get_or-synced_part disk.synced (length c) (length disk.seen - length c) (place - length c) (omega arith) ∙ ap (λ n. get_or disk.synced n 0) (omega arith)
+          get_or-append_right c (synced_part disk.synced (length c) (disk.least - length c)) (length c) place 0 refl above
+          ∙ get_or-synced_part disk.synced (length c) (disk.least - length c) (place - length c) (omega arith) ∙ ap (λ n. get_or disk.synced n 0) (omega arith)
 
-pub cut_follows : (disk : MemDiskState) (size : ℕ) (seen' : List ℕ) (calls : Calls) → seen' ≡ take size disk.seen
-    → Follows (Cut size) (Image disk) (Image (record { seen = seen'; synced = disk.synced; marks = disk.marks; room = disk.room; calls = calls }))
-cut_follows disk size seen' calls e c (inl now) =
+pub cut_follows : (disk : MemDiskState) (size : ℕ) (seen' : List ℕ) (least' : ℕ) (calls : Calls) → disk.least ≤ disk.most → seen' ≡ take size disk.seen → least' ≡ min size disk.least
+    → Follows (Cut size) (MemImage disk) (MemImage (record { seen = seen'; synced = disk.synced; marks = disk.marks; least = least'; most = disk.most; room = disk.room; calls = calls }))
+cut_follows disk size seen' least' calls bounds e low c (inl now) =
     let long : length c ≡ min size (length disk.seen) = ap length now ∙ ap length e ∙ length-take size disk.seen in
     (disk.seen, inl refl, record { no_shorter = omega arith; front = now ∙ e ∙ sym (take_min size disk.seen) ∙ ap (λ n. take n disk.seen) (sym long) })
-cut_follows disk size seen' calls e c (inr h) = elim h.size [
-  | inl long ↦ cut_long disk size c (long ∙ ap length e ∙ length-take size disk.seen) h.untouched
-  | inr long ↦ (c, inr (record { size = inr long; untouched = h.untouched }), Cut-refl size c)
+cut_follows disk size seen' least' calls bounds e low c (inr h) = elim (cases_lt (length c) disk.least) [
+  | inl short ↦ cut_long disk size c bounds (omega (arith, h.least, short, low)) short h.untouched
+  | inr long ↦ (c, inr (record { least = long; most = h.most; untouched = h.untouched }), Cut-refl size c)
 ]
 
 -- all is synced
@@ -87,10 +88,10 @@ all_untouched zero p = refl
 all_untouched (suc n) zero = refl
 all_untouched (suc n) (suc p) = all_untouched n p
 
-pub settled_only : (file : List ℕ) (room : ℕ) (calls : Calls) → Only file (Image (settled file room calls))
+pub settled_only : (file : List ℕ) (room : ℕ) (calls : Calls) → Only file (MemImage (settled file room calls))
 settled_only file room calls c (inl now) = now
 settled_only file room calls c (inr h) =
-    let long : length c ≡ length file = elim h.size [ inl e ↦ e | inr e ↦ e ] in
+    let long : length c ≡ length file = omega (arith, h.least, h.most) in
     ext_get_or 0 c file long (λ i lt. h.untouched i lt (all_untouched room i))
 
 -- a write: what it makes of the file as it reads
@@ -146,10 +147,10 @@ back_tears_by c mid first end n ends reach le most (inr past) long =
     sym (ap (drop end) (take_all n (over first c mid) (omega arith)) ∙ drop-over first end c mid (omega arith) reach)
 
 write_back : (disk : MemDiskState) (place : ℕ) (bytes c : List ℕ) (n : ℕ) → length disk.seen ≤ length disk.marks → first_changed place disk.seen ≤ length c
-    → n ≤ length c → length c ≤ max n (place + length bytes) → (n ≡ length disk.seen) ⊎ (n ≡ length disk.synced)
+    → n ≤ length c → length c ≤ max n (place + length bytes) → disk.least ≤ n → n ≤ disk.most
     → ((p : ℕ) → p < length c → mark_at (marked place (length bytes) (length disk.seen) disk.marks) p ≡ Untouched → get_or c p 0 ≡ get_or disk.synced p 0)
-    → (d : List ℕ) × Image disk d × Torn (first_changed place disk.seen) (place + length bytes) d c
-write_back disk place bytes c n room reach le most size untouched =
+    → (d : List ℕ) × MemImage disk d × Torn (first_changed place disk.seen) (place + length bytes) d c
+write_back disk place bytes c n room reach le most low high untouched =
     let first = first_changed place disk.seen in
     let end = place + length bytes in
     let mid = synced_part disk.synced first (end - first) in
@@ -160,7 +161,8 @@ write_back disk place bytes c n room reach le most size untouched =
     let all : length (take n (over first c mid)) ≡ n = omega (arith, length-take n (over first c mid)) in (
       take n (over first c mid),
       inr (record {
-        size = elim size [ inl e ↦ inl (all ∙ e) | inr e ↦ inr (all ∙ e) ];
+        least = omega (arith, all, low);
+        most = omega (arith, all, high);
         untouched = λ p lt is.
             let below : p < n = omega arith in
             back_by disk.marks disk.marks disk.synced c mid first end n p ends reach le below
@@ -175,27 +177,18 @@ write_back disk place bytes c n room reach le most size untouched =
       },
     )
 
-write_short : (disk : MemDiskState) (place : ℕ) (bytes c : List ℕ) → length disk.seen ≤ length disk.marks → length c ≡ length disk.synced
-    → ((p : ℕ) → p < length c → mark_at (marked place (length bytes) (length disk.seen) disk.marks) p ≡ Untouched → get_or c p 0 ≡ get_or disk.synced p 0)
-    → (length c < first_changed place disk.seen) ⊎ (first_changed place disk.seen ≤ length c)
-    → (d : List ℕ) × Image disk d × Torn (first_changed place disk.seen) (place + length bytes) d c
-write_short disk place bytes c room long untouched (inl short) = (
-  c,
-  inr (record {
-    size = inr long;
-    untouched = λ p lt is. untouched p lt (marks_out disk.marks place (length bytes) (length disk.seen) p (omega arith) (inl (omega arith)) is);
-  }),
-  Torn-refl (first_changed place disk.seen) (place + length bytes) c,
-)
-write_short disk place bytes c room long untouched (inr reach) =
-    write_back disk place bytes c (length c) room reach (omega arith) (omega arith) (inr long) untouched
-
-pub write_follows : (disk : MemDiskState) (place : ℕ) (bytes : List ℕ) (calls : Calls) → length disk.seen ≤ length disk.marks
-    → Follows (Torn (first_changed place disk.seen) (place + length bytes)) (Image disk) (Image (after_write place bytes disk calls))
-write_follows disk place bytes calls room c (inl now) = (disk.seen, inl refl, rw now (written_tears disk.seen bytes place))
-write_follows disk place bytes calls room c (inr h) = elim h.size [
-  | inl long ↦
-      let long' : length c ≡ max (length disk.seen) (place + length bytes) = long ∙ length-written disk.seen bytes place in
-      write_back disk place bytes c (length disk.seen) room (omega arith) (omega arith) (omega arith) (inl refl) h.untouched
-  | inr long ↦ write_short disk place bytes c room long h.untouched (cases_lt (length c) (first_changed place disk.seen))
+pub write_follows : (disk : MemDiskState) (place : ℕ) (bytes : List ℕ) (calls : Calls) → length disk.seen ≤ length disk.marks → disk.least ≤ disk.most → length disk.seen ≤ disk.most
+    → Follows (Torn (first_changed place disk.seen) (place + length bytes)) (MemImage disk) (MemImage (after_write place bytes disk calls))
+write_follows disk place bytes calls room bounds high c (inl now) = (disk.seen, inl refl, rw now (written_tears disk.seen bytes place))
+write_follows disk place bytes calls room bounds high c (inr h) = elim (cases_lt (length c) (first_changed place disk.seen)) [
+  | inl short ↦ (
+    c,
+    inr (record {
+      least = h.least;
+      most = omega (arith, short, high);
+      untouched = λ p lt is. h.untouched p lt (marks_out disk.marks place (length bytes) (length disk.seen) p (omega arith) (inl (omega arith)) is);
+    }),
+    Torn-refl (first_changed place disk.seen) (place + length bytes) c,
+  )
+  | inr reach ↦ write_back disk place bytes c (min disk.most (length c)) room reach (omega arith) (omega (arith, h.most)) (omega (arith, bounds, h.least)) (omega arith) h.untouched
 ]

@@ -7,3 +7,4 @@ pub mod Writes
 pub mod Images
 pub mod Crashes
 pub mod Moves
+pub mod Looks

@@ -143,14 +143,14 @@ still_is bytes synced bytes' marks marks' size synced_size from to size' from' t
     let all = kept bytes synced marks size synced_size from to (min place size) (put_in place size data') (marks_in place size (length data')) h (omega arith) r same (touched place size (length data')) in
     rw (b, m, s, f, t, put_is bytes data' place size, marked_is marks place (length data') size, ← e) all
 
-pub as_written : (bytes synced bytes' : List ℕ) (marks marks' : List Mark) (size synced_size size' place : ℕ) (data' : List ℕ) (calls : Calls) → size ≤ length bytes → place + length data' ≤ length bytes
+pub as_written : (bytes synced bytes' : List ℕ) (marks marks' : List Mark) (size synced_size size' place least most most' : ℕ) (data' : List ℕ) (calls : Calls) → size ≤ length bytes → place + length data' ≤ length bytes
     → bytes' ≡ take (min place size) bytes ++ (replicate (place - size) 0 ++ (data' ++ drop (place + length data') bytes)) → marks' ≡ marked place (length data') size marks
-    → size' ≡ max size (place + length data')
-    → (record { seen = take size' bytes'; synced = take synced_size synced; marks = marks'; room = length bytes'; calls = calls })
-    ≡ after_write place data' (record { seen = take size bytes; synced = take synced_size synced; marks = marks; room = length bytes; calls = calls }) calls
-as_written bytes synced bytes' marks marks' size synced_size size' place data' calls le room b m s =
+    → size' ≡ max size (place + length data') → most' ≡ max most (place + length data')
+    → (record { seen = take size' bytes'; synced = take synced_size synced; marks = marks'; least = least; most = most'; room = length bytes'; calls = calls })
+    ≡ after_write place data' (record { seen = take size bytes; synced = take synced_size synced; marks = marks; least = least; most = most; room = length bytes; calls = calls }) calls
+as_written bytes synced bytes' marks marks' size synced_size size' place least most most' data' calls le room b m s long_most =
     let file : length (take size bytes) ≡ size = omega (arith, length-take size bytes) in
     let r : min place size + length (put_in place size data') ≤ length bytes = omega (arith, length-put_in place size data') in
     let long = length-over (min place size) bytes (put_in place size data') r in
     let seen = reads_written bytes data' place size le in
-    rw (b, m, s, put_is bytes data' place size, seen, long, file) refl
+    rw (b, m, s, long_most, put_is bytes data' place size, seen, long, file) refl

@@ -3,7 +3,7 @@ use Rattle.std.specs.Prelude.{◌≡◌, ℕ, ◌+◌, ◌-◌, ◌≤◌, min, 
 use Rattle.mp_outside.specs.Faults.{Rose}
 
 -- what a read gave from this place on: these bytes of the file, in the front of what was passed
-pub record Gives (file : List ℕ) (place count : ℕ) (old new : List ℕ) : Type 0 where
+pub record GivesBytes (file : List ℕ) (place count : ℕ) (old new : List ℕ) : Type 0 where
   pub within : count ≤ length (drop place file)
   pub front : new ≡ take count (drop place file) ++ drop count old
 

@@ -6,3 +6,4 @@ pub mod Memory
 pub mod Disks
 pub mod Marks
 pub mod MemDisks
+pub mod Looks

@@ -6,16 +6,16 @@ use Rattle.mp_outside.specs.declared.errors.ReadRefusal.{ReadRefusal}
 use Rattle.mp_outside.specs.declared.errors.ReadRefusal.TheVariants.{Failed, Memory}
 
 -- these bytes are the first `most` of what was left, or all where there were fewer; the others are left
-abbrev pub Reads : ℕ → Option (List ℕ) → Option (List ℕ) → List ℕ → Type 0
-Reads most None new bytes = ⊤
-Reads most (Some input) None bytes = ⊥
-Reads most (Some input) (Some rest) bytes = (bytes ≡ take most input) × (rest ≡ drop most input)
+abbrev pub ReadsUpTo : ℕ → Option (List ℕ) → Option (List ℕ) → List ℕ → Type 0
+ReadsUpTo most None new bytes = ⊤
+ReadsUpTo most (Some input) None bytes = ⊥
+ReadsUpTo most (Some input) (Some rest) bytes = (bytes ≡ take most input) × (rest ≡ drop most input)
 
 -- at most so many bytes were taken off the front of what was left
 abbrev pub TakesUpTo : ℕ → Option (List ℕ) → Option (List ℕ) → Type 0
 TakesUpTo most old new = (taken : List ℕ) × (length taken ≤ most) × Consumes old new taken
 
 -- why reading was refused: the source's count of faults rose, or there was no memory
-abbrev pub HasCause : ℕ → ℕ → ReadRefusal → Type 0
-HasCause old new Failed = Rose old new
-HasCause old new Memory = ⊤
+abbrev pub ReadCause : ℕ → ℕ → ReadRefusal → Type 0
+ReadCause old new Failed = Rose old new
+ReadCause old new Memory = ⊤

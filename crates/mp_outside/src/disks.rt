@@ -2,7 +2,7 @@
 
 ghost use Rattle.std.specs.Prelude.{◌≡◌, ◌⊎◌, ℕ, ◌+◌, ◌<◌, ◌≤◌, ◌^◌, Bool, IsTrue, List, length, take, min, IfOk, OnOk, OnErr};
 ghost use Rattle.mp_outside.specs.Faults.{one_more, Rose};
-ghost use Rattle.mp_outside.specs.Disks.{Gives, written, first_changed, Torn, Cut, Follows, Only, Quiet, Counts};
+ghost use Rattle.mp_outside.specs.Disks.{GivesBytes, written, first_changed, Torn, Cut, Follows, Only, Quiet, Counts};
 
 use crate::errors::Failed;
 
@@ -49,22 +49,24 @@ pub trait Disk {
         ensures quiet { Quiet (seen self.old) (image self.old) (seen self.new) (image self.new) }
         ensures within { IfOk result (λ count. count ≤ length into.old) }
         ensures gives { IsTrue (tells self.old)
-            → IfOk result (λ count. Gives (seen self.old) place count into.old into.new) }
+            → IfOk result (λ count. GivesBytes (seen self.old) place count into.old into.new) }
         ensures some { IfOk result
             (λ count. place < known self.old → 0 < length into.old → count ≡ 0 → Rose (faults self.old) (faults self.new)) }
         ensures known { known self.new ≡ known self.old }
         ensures counts { Counts result (faults self.old) (faults self.new) }
         ensures calls { calls self.new ≡ one_more (calls self.old) };
 
-    /// Writes over what is there, and past the end; zeros fill the part between the old end and the place. Until a
-    /// sync, a crash may leave any bytes from the place on, or from the old end on where that lies before, to the end
-    /// of what was written. A write that fails may have been done in part.
+    /// Writes over what is there, and past the end; zeros fill the part between the old end and the place. What it
+    /// writes ends below 2^63. A write of no bytes past the end may leave the end where it is. Until a sync, a crash may
+    /// leave any bytes from the place on, or from the old end on where that lies before, to the end of what was written.
+    /// A write that fails may have been done in part.
     fn write_at(&mut self, place: u64, bytes: &[u8]) -> Result<(), Failed>
         ensures tells { tells self.new ≡ tells self.old }
-        ensures written { IsTrue (tells self.old)
+        ensures bounded { OnOk result (place + length bytes.now < 2 ^ 63) }
+        ensures written { IsTrue (tells self.old) → 0 < length bytes.now
             → OnOk result (seen self.new ≡ written place bytes.now (seen self.old)) }
-        ensures in_part { IsTrue (tells self.old) → OnErr result
-            (Torn (first_changed place (seen self.old)) (place + length bytes.now) (seen self.old) (seen self.new)) }
+        ensures in_part { IsTrue (tells self.old)
+            → Torn (first_changed place (seen self.old)) (place + length bytes.now) (seen self.old) (seen self.new) }
         ensures images { IsTrue (tells self.old) → Follows
             (Torn (first_changed place (seen self.old)) (place + length bytes.now)) (image self.old) (image self.new) }
         ensures known { known self.old ≤ known self.new }

@@ -2,7 +2,7 @@
 
 ghost use Rattle.std.specs.Prelude.{◌≡◌, ◌⊎◌, ◌↔◌, ◌+◌, ◌-◌, ◌^◌, ◌<◌, ◌≤◌, IsTrue, length, take, min, IfOk, OnOk, IsErr, OnErr};
 ghost use Rattle.mp_outside.specs.Faults.{one_more, Rose};
-ghost use Rattle.mp_outside.specs.Disks.{Gives, written, first_changed, Torn, Cut, Follows, Only, Quiet, Counts};
+ghost use Rattle.mp_outside.specs.Disks.{GivesBytes, written, first_changed, Torn, Cut, Follows, Only, Quiet, Counts};
 
 use crate::disks::Disk;
 use crate::errors::Failed;
@@ -103,7 +103,7 @@ impl<D: Disk> Disk for FuseDisk<D> {
         ensures quiet { Quiet (D.seen self.old.disk) (D.image self.old.disk) (D.seen self.new.disk) (D.image self.new.disk) }
         ensures within { IfOk result (λ count. count ≤ length into.old) }
         ensures gives { IsTrue (D.tells self.old.disk)
-            → IfOk result (λ count. Gives (D.seen self.old.disk) place count into.old into.new) }
+            → IfOk result (λ count. GivesBytes (D.seen self.old.disk) place count into.old into.new) }
         ensures some { IfOk result (λ count. place < D.known self.old.disk → 0 < length into.old → count ≡ 0
             → Rose (D.faults self.old.disk + self.old.fuse.refused) (D.faults self.new.disk + self.new.fuse.refused)) }
         ensures known { D.known self.new.disk ≡ D.known self.old.disk }
@@ -121,10 +121,11 @@ impl<D: Disk> Disk for FuseDisk<D> {
 
     fn write_at(&mut self, place: u64, bytes: &[u8]) -> Result<(), Failed>
         ensures tells { D.tells self.new.disk ≡ D.tells self.old.disk }
-        ensures written { IsTrue (D.tells self.old.disk)
+        ensures bounded { OnOk result (place + length bytes.now < 2 ^ 63) }
+        ensures written { IsTrue (D.tells self.old.disk) → 0 < length bytes.now
             → OnOk result (D.seen self.new.disk ≡ written place bytes.now (D.seen self.old.disk)) }
-        ensures in_part { IsTrue (D.tells self.old.disk) → OnErr result
-            (Torn (first_changed place (D.seen self.old.disk)) (place + length bytes.now) (D.seen self.old.disk) (D.seen self.new.disk)) }
+        ensures in_part { IsTrue (D.tells self.old.disk)
+            → Torn (first_changed place (D.seen self.old.disk)) (place + length bytes.now) (D.seen self.old.disk) (D.seen self.new.disk) }
         ensures images { IsTrue (D.tells self.old.disk) → Follows
             (Torn (first_changed place (D.seen self.old.disk)) (place + length bytes.now)) (D.image self.old.disk) (D.image self.new.disk) }
         ensures known { D.known self.old.disk ≤ D.known self.new.disk }

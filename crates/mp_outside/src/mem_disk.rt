@@ -4,8 +4,8 @@ ghost use Rattle.std.specs.Prelude.{◌≡◌, ◌⊎◌, ◌↔◌, ◌+◌, �
 ghost use Rattle.std.proofs.Common.{inl};
 ghost use Rattle.mp_outside.specs.Faults.{one_more, Rose};
 ghost use Rattle.mp_outside.specs.Calls.{no_calls, NextFails, passed, faulted, next_calls};
-ghost use Rattle.mp_outside.specs.Disks.{Gives, written, first_changed, Torn, Cut, Follows, Only, Quiet, Counts};
-ghost use Rattle.mp_outside.specs.MemDisks.{settled, after_write, after_cut, after_call, Image, Left};
+ghost use Rattle.mp_outside.specs.Disks.{GivesBytes, written, first_changed, Torn, Cut, Follows, Only, Quiet, Counts};
+ghost use Rattle.mp_outside.specs.MemDisks.{settled, after_write, after_cut, after_call, MemImage, Left};
 
 use crate::buffers::{leave, put, settle, with_front};
 use crate::calls::FailingCalls;
@@ -26,6 +26,9 @@ pub struct MemDisk {
     /// The file at the last sync, in the front of such a buffer.
     synced: Vec<u8>,
     synced_size: usize,
+    /// A crash may leave any length between these two.
+    least: usize,
+    most: usize,
     marks: Vec<Mark>,
     /// Outside this range nothing waits for a sync, so a sync copies no more.
     from: usize,
@@ -34,14 +37,15 @@ pub struct MemDisk {
 }
 
 impl Model for MemDisk {
-    ghost use Rattle.std.specs.Prelude.{◌≡◌, length, take};
-    ghost use Rattle.mp_outside.specs.MemDisks.{MemDiskState, IsMemDisk};
+    ghost use Rattle.std.specs.Prelude.{length, take};
+    ghost use Rattle.mp_outside.specs.MemDisks.{MemDiskState, IsMemDisk, IsBetween};
 
     ghost Value = { MemDiskState };
 
-    ghost view = { λ d. record { seen = take d.size d.bytes.items; synced = take d.synced_size d.synced.items; marks = d.marks.items; room = length d.bytes.items; calls = d.calls } };
+    ghost view = { λ d. record { seen = take d.size d.bytes.items; synced = take d.synced_size d.synced.items; marks = d.marks.items; least = d.least; most = d.most; room = length d.bytes.items; calls = d.calls } };
 
-    ghost invariant = { λ d. IsMemDisk d.bytes.items d.synced.items d.marks.items d.size d.synced_size d.from d.to };
+    ghost invariant = { λ d. IsMemDisk d.bytes.items d.synced.items d.marks.items d.size d.synced_size d.from d.to
+        × IsBetween d.size d.synced_size d.least d.most };
 }
 
 impl MemDisk {
@@ -60,6 +64,8 @@ impl MemDisk {
             size: bytes.len(),
             synced,
             synced_size: bytes.len(),
+            least: bytes.len(),
+            most: bytes.len(),
             marks,
             from: 0,
             to: 0,
@@ -73,8 +79,8 @@ impl MemDisk {
     /// to 3 keep the length, and where ranges overlap the later one counts.
     pub fn crash(&mut self, choice: u8)
         requires { choice < 4 }
-        ensures image { Image self.old self.new.seen }
-        ensures only { Only self.new.seen (Image self.new) }
+        ensures image { MemImage self.old self.new.seen }
+        ensures only { Only self.new.seen (MemImage self.new) }
         ensures dropped { choice ≡ 0 → self.new.seen ≡ self.old.synced }
         ensures left { 0 < choice → Left choice self.old self.new.seen }
         ensures settled { self.new ≡ settled self.new.seen self.old.room self.old.calls }
@@ -84,7 +90,7 @@ impl MemDisk {
     }
 
     fn lose(&mut self, choice: u8)
-        ensures image { Image self.old self.new.seen }
+        ensures image { MemImage self.old self.new.seen }
         ensures dropped { choice ≡ 0 → self.new.seen ≡ self.old.synced }
         ensures left { 0 < choice → Left choice self.old self.new.seen }
         ensures room { self.new.room ≡ self.old.room }
@@ -98,14 +104,15 @@ impl MemDisk {
     }
 
     fn restore(&mut self)
-        ensures { self.new ≡ record self.old { seen = self.old.synced } }
+        ensures synced { self.new ≡ record self.old { seen = self.old.synced } }
+        ensures image { MemImage self.old self.new.seen }
     {
         self.bytes.copy_from_slice(&self.synced);
         self.size = self.synced_size;
     }
 
     fn damage(&mut self, choice: u8)
-        ensures image { Image self.old self.new.seen }
+        ensures image { MemImage self.old self.new.seen }
         ensures left { Left choice self.old self.new.seen }
         ensures room { self.new.room ≡ self.old.room }
         ensures calls { self.new.calls ≡ self.old.calls }
@@ -133,6 +140,7 @@ impl MemDisk {
         let end = put(&mut self.bytes, self.size, place, bytes);
         mark_write(&mut self.marks, self.size, place, bytes.len());
         self.size = self.size.max(end);
+        self.most = self.most.max(end);
         self.from = self.from.min(first);
         self.to = self.to.max(end);
     }
@@ -148,6 +156,8 @@ impl MemDisk {
             self.to,
         );
         self.synced_size = self.size;
+        self.least = self.size;
+        self.most = self.size;
         self.from = 0;
         self.to = 0;
     }
@@ -158,7 +168,7 @@ impl Disk for MemDisk {
 
     ghost seen = { λ disk. disk.seen };
 
-    ghost image = { Image };
+    ghost image = { MemImage };
 
     ghost seen_is_image = { λ disk _. inl refl };
 
@@ -169,7 +179,7 @@ impl Disk for MemDisk {
     ghost calls = { λ disk. disk.calls.made };
 
     fn length(&mut self) -> Result<u64, Failed>
-        ensures quiet { Quiet self.old.seen (Image self.old) self.new.seen (Image self.new) }
+        ensures quiet { Quiet self.old.seen (MemImage self.old) self.new.seen (MemImage self.new) }
         ensures is { IfOk result (λ size. size ≡ length self.old.seen) }
         ensures small { IfOk result (λ size. size < 2 ^ 63) }
         ensures known { IfOk result (λ size. length self.new.seen ≡ size) }
@@ -186,9 +196,9 @@ impl Disk for MemDisk {
     }
 
     fn read(&mut self, place: u64, into: &mut [u8]) -> Result<usize, Failed>
-        ensures quiet { Quiet self.old.seen (Image self.old) self.new.seen (Image self.new) }
+        ensures quiet { Quiet self.old.seen (MemImage self.old) self.new.seen (MemImage self.new) }
         ensures within { IfOk result (λ count. count ≤ length into.old) }
-        ensures gives { IfOk result (λ count. Gives self.old.seen place count into.old into.new) }
+        ensures gives { IfOk result (λ count. GivesBytes self.old.seen place count into.old into.new) }
         ensures some { IfOk result
             (λ count. place < length self.old.seen → 0 < length into.old → count ≡ 0 → Rose self.old.calls.faults self.new.calls.faults) }
         ensures known { length self.new.seen ≡ length self.old.seen }
@@ -211,8 +221,8 @@ impl Disk for MemDisk {
     }
 
     fn sync(&mut self) -> Result<(), Failed>
-        ensures quiet { Quiet self.old.seen (Image self.old) self.new.seen (Image self.new) }
-        ensures safe { OnOk result (Only self.old.seen (Image self.new)) }
+        ensures quiet { Quiet self.old.seen (MemImage self.old) self.new.seen (MemImage self.new) }
+        ensures safe { OnOk result (Only self.old.seen (MemImage self.new)) }
         ensures known { length self.new.seen ≡ length self.old.seen }
         ensures counts { Counts result self.old.calls.faults self.new.calls.faults }
         ensures calls { self.new.calls.made ≡ one_more self.old.calls.made }
@@ -228,11 +238,11 @@ impl Disk for MemDisk {
     }
 
     fn write_at(&mut self, place: u64, bytes: &[u8]) -> Result<(), Failed>
+        ensures bounded { OnOk result (place + length bytes.now < 2 ^ 63) }
         ensures written { OnOk result (self.new.seen ≡ written place bytes.now self.old.seen) }
-        ensures in_part { OnErr result
-            (Torn (first_changed place self.old.seen) (place + length bytes.now) self.old.seen self.new.seen) }
+        ensures in_part { Torn (first_changed place self.old.seen) (place + length bytes.now) self.old.seen self.new.seen }
         ensures images { Follows
-            (Torn (first_changed place self.old.seen) (place + length bytes.now)) (Image self.old) (Image self.new) }
+            (Torn (first_changed place self.old.seen) (place + length bytes.now)) (MemImage self.old) (MemImage self.new) }
         ensures known { length self.old.seen ≤ length self.new.seen }
         ensures counts { Counts result self.old.calls.faults self.new.calls.faults }
         ensures calls { self.new.calls.made ≡ one_more self.old.calls.made }
@@ -258,7 +268,7 @@ impl Disk for MemDisk {
         ensures cut { OnOk result (self.new.seen ≡ take size self.old.seen) }
         ensures or_not { OnErr result
             ((self.new.seen ≡ self.old.seen) ⊎ (self.new.seen ≡ take size self.old.seen)) }
-        ensures images { Follows (Cut size) (Image self.old) (Image self.new) }
+        ensures images { Follows (Cut size) (MemImage self.old) (MemImage self.new) }
         ensures known { min size (length self.old.seen) ≤ length self.new.seen }
         ensures counts { Counts result self.old.calls.faults self.new.calls.faults }
         ensures calls { self.new.calls.made ≡ one_more self.old.calls.made }
@@ -271,6 +281,7 @@ impl Disk for MemDisk {
         self.calls.make()?;
         if size < self.size as u64 {
             self.size = size as usize;
+            self.least = self.size.min(self.least);
         }
         Ok(())
     }

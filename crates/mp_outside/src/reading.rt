@@ -1,7 +1,7 @@
 //! Reading a source to its end.
 
 ghost use Rattle.std.specs.Prelude.{ℕ, ◌≤◌, length, IfOk, IfErr};
-ghost use Rattle.mp_outside.specs.Sources.{Reads, TakesUpTo, HasCause};
+ghost use Rattle.mp_outside.specs.Sources.{ReadsUpTo, TakesUpTo, ReadCause};
 
 use crate::errors::ReadRefusal;
 use crate::sources::Source;
@@ -10,15 +10,15 @@ use std::alloc::Global;
 
 const PIECE: usize = 4096;
 
-/// Reads a source to its end, or its first `most` bytes where it has more, in pieces of 4,096 bytes. A refusal says
+/// ReadsUpTo a source to its end, or its first `most` bytes where it has more, in pieces of 4,096 bytes. A refusal says
 /// that a read failed or that there was no memory; at most `most` bytes were taken then, and they are lost.
 pub fn read_all<S: Source>(alloc: Global, source: &mut S, most: usize) -> Result<Text, ReadRefusal>
     ensures bytes { IfOk result
-        (λ text. Reads most (S.left source.old) (S.left source.new) text.items) }
+        (λ text. ReadsUpTo most (S.left source.old) (S.left source.new) text.items) }
     ensures bound { IfOk result (λ text. length text.items ≤ most) }
     ensures takes { TakesUpTo most (S.left source.old) (S.left source.new) }
     ensures count { S.faults source.old ≤ S.faults source.new }
-    ensures cause { IfErr result (HasCause (S.faults source.old) (S.faults source.new)) }
+    ensures cause { IfErr result (ReadCause (S.faults source.old) (S.faults source.new)) }
 {
     let mut text = Text::new(alloc);
     let mut piece = [0; PIECE];

@@ -7,4 +7,4 @@ pub invariant_of-self : goal.invariant_of-self
 invariant_of-self c =
     let fields = c.self.inside in
     let room : c.args.place ≤ length fields.bytes.items = rw (ap (λ d. d.room) c.self.view_is) c.requires in
-    moved fields.bytes.items fields.synced.items fields.marks.items fields.size fields.synced_size fields.from fields.to c.args.place c.self.invariant c.if-self.true room
+    (moved fields.bytes.items fields.synced.items fields.marks.items fields.size fields.synced_size fields.from fields.to c.args.place c.self.invariant.0 c.if-self.true room, c.self.invariant.1)
