@@ -74,7 +74,7 @@ put_count low high rows row h room =
     with_count (holds (λ r. r.key) row.key rows) (length rows) _ (length-with_cell (λ (x : Row). x.key) low high row rows r.rises) r.most room
 
 -- a key that is held lies between the bounds
-held_within : {T : Type 0} (key : T → ℕ) (low high k : ℕ) (cells : List T) → Rises key low high cells → holds key k cells ≡ true → (low ≤ k) × (k < high)
+pub held_within : {T : Type 0} (key : T → ℕ) (low high k : ℕ) (cells : List T) → Rises key low high cells → holds key k cells ≡ true → (low ≤ k) × (k < high)
 held_within key low high k [] r h = absurd (false≢true h)
 held_within {T} key low high k (cell ∷ cells) r h = by_test (key cell == k) refl h (held_within key (key cell + 1) high k cells r.2)
   where

@@ -8,3 +8,17 @@ pub mod PageRanges
 pub mod RowSpelling
 pub mod SmallTrees
 pub mod TreeSearch
+pub mod ByPage
+pub mod Stretches
+pub mod Uses
+pub mod Heights
+pub mod Spare
+pub mod Shapes
+pub mod Places
+pub mod Bits
+pub mod RowsPut
+pub mod Llsns
+pub mod MtrPages
+pub mod SamePages
+pub mod Links
+pub mod ChangeCells

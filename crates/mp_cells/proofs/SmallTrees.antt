@@ -1,17 +1,15 @@
 -- The definition of a tree at small maps: a fresh one, one of two leaves, and one whose fences leave a gap.
-use Rattle.std.proofs.Common.{◌≡◌, ◌≢◌, ℕ, zero, suc, ◌+◌, ◌/◌, ◌%◌, ◌^◌, ◌<◌, ◌≤◌, ◌==◌, false, List, [], ◌∷◌, length, get_or, replicate, Some, None, refl, ap, ◌∙◌, inl, inr, arith}
+use Rattle.std.proofs.Common.{◌≡◌, ◌≢◌, ℕ, zero, suc, ◌+◌, ◌/◌, ◌%◌, ◌^◌, ◌<◌, ◌≤◌, ◌==◌, false, [], ◌∷◌, length, get_or, replicate, refl, ap, ◌∙◌, inl, inr, arith}
 use Rattle.std.specs.Int.{bit_at}
+use Rattle.std.specs.List.{AllByRecursion}
 use Rattle.std.proofs.lemmas.Bool.{cases_lt}
 use Rattle.std.proofs.lemmas.Bool.Decides.{nat_tests}
 use Rattle.std.proofs.lemmas.Nat.Bits.{bit_at-zero, bit_at_above}
 use Rattle.mp_cells.specs.declared.kinds.Kind.TheVariants.{Blank, Leaf, Inner, Undo}
-use Rattle.mp_cells.specs.declared.rows.Row.{Row}
-use Rattle.mp_cells.specs.PageView.{blank_page, meta_page, leaf_page, inner_page, AreBits, IsPage, bit_of, is_of}
-use Rattle.mp_cells.specs.Trees.{PageMap, top, root, Levels, uses, one_if, IsTree, tree_rows, row_at, leaf_at}
-
--- bits of which only the first byte has any
-abbrev low_bits : ℕ → List ℕ
-low_bits byte = byte ∷ replicate 511 0
+use Rattle.mp_cells.specs.Rows.{IsRow}
+use Rattle.mp_cells.specs.PageView.{AreBits, IsPage, bit_of, is_of}
+use Rattle.mp_cells.specs.Trees.{root, Levels, uses, one_if, IsTree, IsUnwritten, IsClean}
+use Rattle.mp_cells.specs.SmallMaps.{low_bits, fresh_map, gone_row, two_leaves, gap_map}
 
 zeros_at : (n i : ℕ) → get_or (replicate {A = ℕ} n 0) i 0 ≡ 0
 zeros_at zero i = refl
@@ -39,14 +37,9 @@ clear byte k n lt le small = elim (cases_lt n 8) [
     beyond zero r h = absurd (omega arith)
     beyond (suc q) r h = ap (λ (b : ℕ). bit_at b r) (zeros_at 511 q) ∙ bit_at-zero r
 
--- ---- a fresh map: the meta page with bits 0 and 1, an empty leaf as the root, and blank pages
+-- ---- a fresh map
 
-abbrev fresh : PageMap
-fresh zero = meta_page 0 (low_bits 3)
-fresh (suc zero) = leaf_page 0 0 top []
-fresh (suc (suc n)) = blank_page 0
-
-fresh_sound : (n : ℕ) → IsPage (fresh n)
+fresh_sound : (n : ℕ) → IsPage (fresh_map n)
 fresh_sound zero = record { llsn = omega arith; content = (refl, low_are_bits 3 (omega arith)) }
 fresh_sound (suc zero) = record { llsn = omega arith; content = (refl, refl, tt) }
 fresh_sound (suc (suc n)) = record { llsn = omega arith; content = refl }
@@ -63,7 +56,7 @@ fresh_bits (suc (suc n)) =
     let other : one_if (suc (suc n) == 0) ≡ 0 = ap one_if (not_used 0 (suc (suc n)) (omega arith)) in
     clear 3 2 (suc (suc n)) (omega arith) (omega arith) (omega arith) ∙ omega (arith, none, other)
 
-pub fresh_is_tree : IsTree fresh 0
+pub fresh_is_tree : IsTree fresh_map 0
 fresh_is_tree = record {
   sound = λ n lt. fresh_sound n;
   meta = refl;
@@ -75,61 +68,129 @@ fresh_is_tree = record {
   blank = blank;
 }
   where
-    leaf_fill : (n : ℕ) → n < 4096 → n ≢ 1 → (fresh n).kind ≡ Leaf → 7 ≤ length (fresh n).rows
+    leaf_fill : (n : ℕ) → n < 4096 → n ≢ 1 → (fresh_map n).kind ≡ Leaf → 7 ≤ length (fresh_map n).rows
     leaf_fill zero lt ne e = absurd cc
     leaf_fill (suc zero) lt ne e = absurd (ne refl)
     leaf_fill (suc (suc n)) lt ne e = absurd cc
 
-    inner_fill : (n : ℕ) → n < 4096 → n ≢ 1 → (fresh n).kind ≡ Inner → 62 ≤ length (fresh n).children
+    inner_fill : (n : ℕ) → n < 4096 → n ≢ 1 → (fresh_map n).kind ≡ Inner → 62 ≤ length (fresh_map n).children
     inner_fill zero lt ne e = absurd cc
     inner_fill (suc zero) lt ne e = absurd (ne refl)
     inner_fill (suc (suc n)) lt ne e = absurd cc
 
-    bits : (n : ℕ) → n < 4096 → bit_of (low_bits 3) n ≡ one_if (n == 0) + uses n (1 ∷ []) + one_if (is_of Undo (fresh n))
+    bits : (n : ℕ) → n < 4096 → bit_of (low_bits 3) n ≡ one_if (n == 0) + uses n (1 ∷ []) + one_if (is_of Undo (fresh_map n))
     bits zero lt = refl
     bits (suc zero) lt = refl
     bits (suc (suc n)) lt = fresh_bits (suc (suc n))
 
-    blank : (n : ℕ) → n < 4096 → bit_of (low_bits 3) n ≡ 0 → (fresh n).kind ≡ Blank
+    blank : (n : ℕ) → n < 4096 → bit_of (low_bits 3) n ≡ 0 → (fresh_map n).kind ≡ Blank
     blank zero lt e = absurd (omega (arith, e))
     blank (suc zero) lt e = absurd (omega (arith, e))
     blank (suc (suc n)) lt e = refl
 
+pub fresh_is_clean : IsClean 0 fresh_map
+fresh_is_clean = record { tree = fresh_is_tree; no_undo = no_undo; no_writers = no_writers; llsns = llsns }
+  where
+    no_undo : (n : ℕ) → n < 4096 → (fresh_map n).kind ≢ Undo
+    no_undo zero lt = λ e. absurd cc
+    no_undo (suc zero) lt = λ e. absurd cc
+    no_undo (suc (suc n)) lt = λ e. absurd cc
+
+    no_writers : (n : ℕ) → n < 4096 → (fresh_map n).kind ≡ Leaf → AllByRecursion IsUnwritten (fresh_map n).rows
+    no_writers zero lt e = tt
+    no_writers (suc zero) lt e = tt
+    no_writers (suc (suc n)) lt e = tt
+
+    llsns : (n : ℕ) → n < 4096 → (fresh_map n).llsn ≤ 0
+    llsns zero lt = omega arith
+    llsns (suc zero) lt = omega arith
+    llsns (suc (suc n)) lt = omega arith
+
 -- ---- a root with two leaves
 
-abbrev gone : ℕ → Row
-gone key = record { key = key; value = None; writer = None; link = None }
+gone_is_row : (key : ℕ) → key < 2 ^ 32 → IsRow (gone_row key)
+gone_is_row key lt = record { key = lt; value = tt; origin = refl }
 
-abbrev two : PageMap
-two zero = meta_page 0 (low_bits 15)
-two (suc zero) = inner_page 0 0 top (record { low = 0; page = 2 } ∷ record { low = 9; page = 3 } ∷ [])
-two (suc (suc zero)) = leaf_page 0 0 9 (gone 1 ∷ gone 2 ∷ gone 3 ∷ gone 4 ∷ gone 5 ∷ gone 6 ∷ gone 7 ∷ [])
-two (suc (suc (suc zero))) = leaf_page 0 9 top (gone 9 ∷ gone 10 ∷ gone 11 ∷ gone 12 ∷ gone 13 ∷ gone 14 ∷ gone 15 ∷ [])
-two (suc (suc (suc (suc n)))) = blank_page 0
+two_sound : (n : ℕ) → IsPage (two_leaves n)
+two_sound zero = record { llsn = omega arith; content = (refl, low_are_bits 15 (omega arith)) }
+two_sound (suc zero) = record { llsn = omega arith; content = (refl, refl, (record { low = omega arith; page = refl }, (record { low = omega arith; page = refl }, tt))) }
+two_sound (suc (suc zero)) = record { llsn = omega arith; content = (refl, refl, (gone_is_row 1 (omega arith), (gone_is_row 2 (omega arith), (gone_is_row 3 (omega arith), (gone_is_row 4 (omega arith), (gone_is_row 5 (omega arith), (gone_is_row 6 (omega arith), (gone_is_row 7 (omega arith), tt)))))))) }
+two_sound (suc (suc (suc zero))) = record { llsn = omega arith; content = (refl, refl, (gone_is_row 9 (omega arith), (gone_is_row 10 (omega arith), (gone_is_row 11 (omega arith), (gone_is_row 12 (omega arith), (gone_is_row 13 (omega arith), (gone_is_row 14 (omega arith), (gone_is_row 15 (omega arith), tt)))))))) }
+two_sound (suc (suc (suc (suc n)))) = record { llsn = omega arith; content = refl }
 
-pub two_levels : Levels two 1 (root ∷ [])
+two_levels : Levels two_leaves 1 (root ∷ [])
 two_levels = ((refl, refl, refl, tt), (refl, refl, refl, (refl, refl, refl, tt)))
 
--- the rows are those of both leaves, and a search comes to the leaf that holds the key
-pub two_rows : length (tree_rows two 1) ≡ 14
-two_rows = refl
+pub two_is_tree : IsTree two_leaves 1
+two_is_tree = record {
+  sound = λ n lt. two_sound n;
+  meta = refl;
+  levels = two_levels;
+  leaf_fill = leaf_fill;
+  inner_fill = inner_fill;
+  root_fill = λ e. omega arith;
+  bits = bits;
+  blank = blank;
+}
+  where
+    leaf_fill : (n : ℕ) → n < 4096 → n ≢ 1 → (two_leaves n).kind ≡ Leaf → 7 ≤ length (two_leaves n).rows
+    leaf_fill zero lt ne e = absurd cc
+    leaf_fill (suc zero) lt ne e = absurd cc
+    leaf_fill (suc (suc zero)) lt ne e = omega arith
+    leaf_fill (suc (suc (suc zero))) lt ne e = omega arith
+    leaf_fill (suc (suc (suc (suc n)))) lt ne e = absurd cc
 
-pub two_search : leaf_at two 1 12 root ≡ record { low = 9; page = 3 }
-two_search = refl
+    inner_fill : (n : ℕ) → n < 4096 → n ≢ 1 → (two_leaves n).kind ≡ Inner → 62 ≤ length (two_leaves n).children
+    inner_fill zero lt ne e = absurd cc
+    inner_fill (suc zero) lt ne e = absurd (ne refl)
+    inner_fill (suc (suc zero)) lt ne e = absurd cc
+    inner_fill (suc (suc (suc zero))) lt ne e = absurd cc
+    inner_fill (suc (suc (suc (suc n)))) lt ne e = absurd cc
 
-pub two_found : row_at 12 (tree_rows two 1) ≡ Some (gone 12)
-two_found = refl
+    bits : (n : ℕ) → n < 4096 → bit_of (low_bits 15) n ≡ one_if (n == 0) + uses n (1 ∷ 2 ∷ 3 ∷ []) + one_if (is_of Undo (two_leaves n))
+    bits zero lt = refl
+    bits (suc zero) lt = refl
+    bits (suc (suc zero)) lt = refl
+    bits (suc (suc (suc zero))) lt = refl
+    bits (suc (suc (suc (suc n)))) lt =
+        let m = suc (suc (suc (suc n))) in
+        clear 15 4 m (omega arith) (omega arith) (omega arith)
+        ∙ omega (arith, ap one_if (not_used m 1 (omega arith)), ap one_if (not_used m 2 (omega arith)), ap one_if (not_used m 3 (omega arith)), ap one_if (not_used 0 m (omega arith)))
 
-pub two_absent : row_at 8 (tree_rows two 1) ≡ None
-two_absent = refl
+    blank : (n : ℕ) → n < 4096 → bit_of (low_bits 15) n ≡ 0 → (two_leaves n).kind ≡ Blank
+    blank zero lt e = absurd (omega (arith, e))
+    blank (suc zero) lt e = absurd (omega (arith, e))
+    blank (suc (suc zero)) lt e = absurd (omega (arith, e))
+    blank (suc (suc (suc zero))) lt e = absurd (omega (arith, e))
+    blank (suc (suc (suc (suc n)))) lt e = refl
 
--- ---- a gap between two leaves: keys 7 and 8 would have no leaf
+pub two_is_clean : IsClean 0 two_leaves
+two_is_clean = record { tree = two_is_tree; no_undo = no_undo; no_writers = no_writers; llsns = llsns }
+  where
+    no_undo : (n : ℕ) → n < 4096 → (two_leaves n).kind ≢ Undo
+    no_undo zero lt = λ e. absurd cc
+    no_undo (suc zero) lt = λ e. absurd cc
+    no_undo (suc (suc zero)) lt = λ e. absurd cc
+    no_undo (suc (suc (suc zero))) lt = λ e. absurd cc
+    no_undo (suc (suc (suc (suc n)))) lt = λ e. absurd cc
 
-abbrev gap : PageMap
-gap zero = meta_page 0 (low_bits 15)
-gap (suc zero) = inner_page 0 0 top (record { low = 0; page = 2 } ∷ record { low = 9; page = 3 } ∷ [])
-gap (suc (suc zero)) = leaf_page 0 0 7 (gone 1 ∷ gone 2 ∷ [])
-gap (suc (suc (suc n))) = leaf_page 0 9 top []
+    no_writers : (n : ℕ) → n < 4096 → (two_leaves n).kind ≡ Leaf → AllByRecursion IsUnwritten (two_leaves n).rows
+    no_writers zero lt e = tt
+    no_writers (suc zero) lt e = tt
+    no_writers (suc (suc zero)) lt e = (refl, (refl, (refl, (refl, (refl, (refl, (refl, tt)))))))
+    no_writers (suc (suc (suc zero))) lt e = (refl, (refl, (refl, (refl, (refl, (refl, (refl, tt)))))))
+    no_writers (suc (suc (suc (suc n)))) lt e = tt
 
-pub gap_is_none : Levels gap 1 (root ∷ []) → ⊥
-gap_is_none levels = let high : ◌≡◌ {A = ℕ} 7 9 = levels.1.2 in omega (arith, high)
+    llsns : (n : ℕ) → n < 4096 → (two_leaves n).llsn ≤ 0
+    llsns zero lt = omega arith
+    llsns (suc zero) lt = omega arith
+    llsns (suc (suc zero)) lt = omega arith
+    llsns (suc (suc (suc zero))) lt = omega arith
+    llsns (suc (suc (suc (suc n)))) lt = omega arith
+
+-- ---- a gap between two leaves
+
+pub gap_is_none : (height : ℕ) → IsTree gap_map height → ⊥
+gap_is_none zero tree = let both : Inner ≡ Leaf = tree.levels.0 in absurd cc
+gap_is_none (suc zero) tree = let high : ◌≡◌ {A = ℕ} 7 9 = tree.levels.1.2 in omega (arith, high)
+gap_is_none (suc (suc h)) tree = let both : Leaf ≡ Inner = tree.levels.1.0.0 in absurd cc

@@ -1,5 +1,5 @@
 -- In a tree the rows of all leaves rise, and a key's row stands in the leaf that a search comes to.
-use Rattle.std.proofs.Common.{◌≡◌, ℕ, zero, suc, ◌+◌, ◌<◌, ◌≤◌, ◌==◌, Bool, true, false, cond, List, [], ◌∷◌, ◌++◌, Some, None, refl, sym, ap, subst, ◌∙◌, inl, inr, arith}
+use Rattle.std.proofs.Common.{◌≡◌, ℕ, zero, suc, ◌+◌, ◌<◌, ◌≤◌, true, List, [], ◌∷◌, ◌++◌, refl, sym, ap, subst, ◌∙◌, inl, inr, arith}
 use mathlib.Core.Bool.{false≢true}
 use Rattle.std.specs.List.{AllByRecursion}
 use Rattle.std.proofs.lemmas.Bool.{cases_lt, eqb-true}
@@ -14,6 +14,7 @@ use Rattle.mp_cells.specs.Children.{IsChild}
 use Rattle.mp_cells.specs.PageView.{IsPage, HasContent, begins_at}
 use Rattle.mp_cells.specs.Trees.{PageMap, top, root, low_of, Fits, below, Levels, leaves, IsTree, rows_under, tree_rows, row_at, child_from, child_at, leaf_at}
 use Rattle.mp_cells.proofs.KeyOrder.{Rises, Rises-wider}
+use Rattle.mp_cells.proofs.Stretches.{row_at-below, row_at-above, row_at-append}
 use Rattle.mp_cells.proofs.PageRanges.{LeafRanges, leaf_ranges, InnerRanges, inner_ranges}
 use Rattle.mp_cells.proofs.ChildSpelling.{child_page_range}
 
@@ -55,25 +56,6 @@ child_split key high child (next ∷ children) from lt = elim (cases_lt key next
       let rest = child_split key high next children over lt in
       rw test (record { before = child ∷ rest.before; behind = rest.behind; whole = ap (λ (xs : List Child). child ∷ xs) rest.whole; from = rest.from; until = rest.until })
 ]
-
--- rows without the key
-row_at-below : (key low mid : ℕ) (xs ys : List Row) → Rises (λ row. row.key) low mid xs → mid ≤ key → row_at key (xs ++ ys) ≡ row_at key ys
-row_at-below key low mid [] ys r le = refl
-row_at-below key low mid (x ∷ xs) ys r le =
-    let rest = row_at-below key (x.key + 1) mid xs ys r.2 le in
-    let test : (x.key == key) ≡ false = grind (arith, nat_tests, r.1) in
-    ap (λ (b : Bool). cond b (Some x) (row_at key (xs ++ ys))) test ∙ rest
-
-row_at-above : (key low high : ℕ) (ys : List Row) → Rises (λ row. row.key) low high ys → key < low → row_at key ys ≡ None
-row_at-above key low high [] r lt = refl
-row_at-above key low high (y ∷ ys) r lt =
-    let rest = row_at-above key (y.key + 1) high ys r.2 (omega (arith, r.0)) in
-    let test : (y.key == key) ≡ false = grind (arith, nat_tests, r.0) in
-    ap (λ (b : Bool). cond b (Some y) (row_at key ys)) test ∙ rest
-
-row_at-append : (key : ℕ) (xs ys : List Row) → row_at key ys ≡ None → row_at key (xs ++ ys) ≡ row_at key xs
-row_at-append key [] ys h = h
-row_at-append key (x ∷ xs) ys h = ap (cond (x.key == key) (Some x)) (row_at-append key xs ys h)
 
 in_range_part : (before : List Child) (child : Child) (behind : List Child) → InRange (before ++ child ∷ behind) → InRange before × (child.page < 4096) × InRange behind
 in_range_part [] child behind r = (tt, r.0, r.1)
@@ -219,7 +201,7 @@ module _ (pages : PageMap) (sound : (n : ℕ) → n < 4096 → IsPage (pages n))
 
 -- ---- over a tree
 
-root_range : InRange (root ∷ [])
+pub root_range : InRange (root ∷ [])
 root_range = (omega arith, tt)
 
 -- the rows of all leaves stand in key order

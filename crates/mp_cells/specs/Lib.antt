@@ -8,3 +8,8 @@ pub mod PageView
 pub mod Changes
 pub mod Mtrs
 pub mod Trees
+pub mod Plans
+pub mod Writes
+pub mod PageMaps
+pub mod Orders
+pub mod SmallMaps

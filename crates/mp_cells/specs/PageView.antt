@@ -1,6 +1,6 @@
 -- A page as data: what it is, and which ones there may be.
-use Rattle.std.specs.Prelude.{◌≡◌, ℕ, ◌<◌, ◌≤◌, ◌^◌, ◌/◌, ◌%◌, ◌==◌, ◌&&◌, Bool, false, nat_lt, nat_le, List, [], ◌∷◌, length, slice_index, slice_set, bit_or, sum_by, count_ones, IsTrue}
-use Rattle.std.specs.Int.{bit_at}
+use Rattle.std.specs.Prelude.{◌≡◌, ℕ, ◌<◌, ◌≤◌, ◌^◌, ◌/◌, ◌%◌, ◌==◌, ◌&&◌, Bool, false, nat_lt, nat_le, List, [], ◌∷◌, length, slice_index, slice_set, bit_or, bit_and, sum_by, count_ones, IsTrue}
+use Rattle.std.specs.Int.{bit_at, bit_not, w8}
 use Rattle.std.specs.List.{AllByRecursion}
 use Rattle.mp_cells.specs.declared.kinds.Kind.{Kind}
 use Rattle.mp_cells.specs.declared.kinds.Kind.TheVariants.{Blank, Meta, Leaf, Inner, Undo}
@@ -72,6 +72,10 @@ pub record IsPage (page : PageView) : Type 0 where
   pub llsn : page.llsn < 2 ^ 62
   pub content : HasContent page.kind page
 
+-- two pages differ in nothing but their LLSNs
+abbrev pub SameContent : PageView → PageView → Type 0
+SameContent page other = record page { llsn = other.llsn } ≡ other
+
 -- the bit of a page: 1 where it is taken
 abbrev pub bit_of : List ℕ → ℕ → ℕ
 bit_of bits page = bit_at (slice_index bits (page / 8)) (page % 8)
@@ -79,6 +83,10 @@ bit_of bits page = bit_at (slice_index bits (page / 8)) (page % 8)
 -- the bits with one set
 abbrev pub with_bit : List ℕ → ℕ → List ℕ
 with_bit bits page = slice_set bits (page / 8) (bit_or (slice_index bits (page / 8)) (2 ^ (page % 8)))
+
+-- the bits with one cleared
+abbrev pub without_bit : List ℕ → ℕ → List ℕ
+without_bit bits page = slice_set bits (page / 8) (bit_and (slice_index bits (page / 8)) (bit_not w8 (2 ^ (page % 8))))
 
 -- how many bits are set
 abbrev pub bits_set : List ℕ → ℕ

@@ -1,6 +1,6 @@
 -- Maps of pages that are a tree of pages: which ones are, their rows, and the leaf that may hold a key.
 use Rattle.std.specs.Prelude.{◌≡◌, ◌≢◌, ℕ, zero, suc, ◌+◌, ◌<◌, ◌≤◌, ◌^◌, ◌==◌, nat_lt, if◌then◌else◌, Bool, List, [], ◌∷◌, ◌++◌, length, map, Option, Some, None}
-use Rattle.std.specs.List.{flat_map}
+use Rattle.std.specs.List.{flat_map, AllByRecursion}
 use Rattle.mp_cells.specs.declared.kinds.Kind.{Kind}
 use Rattle.mp_cells.specs.declared.kinds.Kind.TheVariants.{Blank, Meta, Leaf, Inner, Undo}
 use Rattle.mp_cells.specs.declared.rows.Row.{Row}
@@ -78,10 +78,6 @@ pub record IsTree (pages : PageMap) (height : ℕ) : Type 0 where
   -- all other pages are blank
   pub blank : (n : ℕ) → n < 4096 → bit_of (pages 0).bits n ≡ 0 → (pages n).kind ≡ Blank
 
--- a map of pages is a tree
-abbrev pub Tree : PageMap → Type 0
-Tree pages = (height : ℕ) × IsTree pages height
-
 -- the rows of some leaves
 abbrev pub rows_under : PageMap → List Child → List Row
 rows_under pages level = flat_map (λ child. (pages child.page).rows) level
@@ -108,3 +104,22 @@ child_at key (child ∷ children) = child_from key child children
 abbrev pub leaf_at : PageMap → ℕ → ℕ → Child → Child
 leaf_at pages zero key child = child
 leaf_at pages (suc height) key child = leaf_at pages height key (child_at key (pages child.page).children)
+
+-- the height of a map of pages: the root is a leaf, or its first child is, or stands above leaves
+abbrev pub height_of : PageMap → ℕ
+height_of pages = if is_of Leaf (pages 1) then 0 else (if is_of Leaf (pages (child_at 0 (pages 1).children).page) then 1 else 2)
+
+-- the rows of a map of pages, in key order
+abbrev pub rows_in : PageMap → List Row
+rows_in pages = tree_rows pages (height_of pages)
+
+-- a row that no transaction is the writer of
+abbrev pub IsUnwritten : Row → Type 0
+IsUnwritten row = row.writer ≡ None
+
+-- a clean map of pages: a tree without undo pages and without writers, where no LLSN is above the base
+pub record IsClean (base : ℕ) (pages : PageMap) : Type 0 where
+  pub tree : IsTree pages (height_of pages)
+  pub no_undo : (n : ℕ) → n < 4096 → (pages n).kind ≢ Undo
+  pub no_writers : (n : ℕ) → n < 4096 → (pages n).kind ≡ Leaf → AllByRecursion IsUnwritten (pages n).rows
+  pub llsns : (n : ℕ) → n < 4096 → (pages n).llsn ≤ base

@@ -9,7 +9,9 @@ mod children;
 mod faults;
 mod in_place;
 mod kinds;
+mod laws;
 mod numbers;
+mod page_data;
 mod records;
 mod row_bytes;
 mod row_cells;
@@ -22,12 +24,19 @@ pub use child_cells::ChildCells;
 pub use children::Child;
 pub use faults::{Fault, PageFault};
 pub use kinds::Kind;
+pub use laws::{
+    law_bits, law_change_cells, law_changes_and_llsns, law_links, law_mtrs, law_page_lists,
+    law_plans, law_prev_examples, law_rows_put, law_sorted_examples,
+};
 pub use numbers::{law_number_bytes, u16_at, u16_bytes, u32_at, u32_bytes, u64_at, u64_bytes};
+pub use page_data::PageData;
 pub use records::{Mtr, Record, Records};
 pub use row_bytes::{read_row, row_of, write_row};
 pub use row_cells::RowCells;
 pub use rows::{Link, Row};
-pub use trees::law_tree_search;
+pub use trees::{
+    law_clean_examples, law_heights, law_same_content, law_small_maps, law_tree_search,
+};
 
 #[cfg(test)]
 mod tests;

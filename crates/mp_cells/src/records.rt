@@ -90,7 +90,8 @@ impl Records {
 
     /// The records as a slice.
     pub fn as_slice(&self) -> &[Record]
-        ensures { result.now ≡ self.now }
+        ensures value { result.now ≡ self.now }
+        ensures most { length result.now ≤ 20 }
     {
         self.items.as_slice()
     }

@@ -14,7 +14,7 @@ use Rattle.mp_cells.proofs.KeyOrder.{test-from_Rises, Rises-wider}
 use Rattle.mp_cells.proofs.AppliedPages.{applied-page}
 use Rattle.mp_page.specs.declared.body.Body.{Body}
 use Rattle.mp_page.specs.declared.body.Body.TheVariants.{Blank, Meta, Leaf, Inner, Undo}
-use Rattle.mp_page.specs.Shown.{shown, IsKept}
+use Rattle.mp_page.specs.Shown.{page_shown, IsKeptPage}
 use Rattle.mp_cells.proofs.PageRanges.{leaf_ranges, inner_ranges}
 
 -- a change that can't be applied
@@ -70,14 +70,14 @@ page_after change old new result h cells a = by_case (applied change old) refl a
     by_case (Some page) e m = rw m.1 (applied-page change old page h cells e)
 
 -- the invariant of how a page is kept, and what it shows
-pub page_from_kept : (llsn : ℕ) (body : Body) → IsKept llsn body → IsPage (shown llsn body)
+pub page_from_kept : (llsn : ℕ) (body : Body) → IsKeptPage llsn body → IsPage (page_shown llsn body)
 page_from_kept llsn Blank h = record { llsn = h.range; content = refl }
 page_from_kept llsn (Meta bits) h = record { llsn = h.range; content = (refl, h.content) }
 page_from_kept llsn (Leaf low high rows) h = record { llsn = h.range; content = (refl, h.content.0, h.content.1) }
 page_from_kept llsn (Inner low high children) h = record { llsn = h.range; content = (refl, h.content.0, h.content.1) }
 page_from_kept llsn (Undo rows) h = record { llsn = h.range; content = (refl, h.content.0, h.content.1) }
 
-pub kept_from_page : (llsn : ℕ) (body : Body) → IsPage (shown llsn body) → IsKept llsn body
+pub kept_from_page : (llsn : ℕ) (body : Body) → IsPage (page_shown llsn body) → IsKeptPage llsn body
 kept_from_page llsn Blank h = record { range = h.llsn; content = tt }
 kept_from_page llsn (Meta bits) h = record { range = h.llsn; content = h.content.1 }
 kept_from_page llsn (Leaf low high rows) h = record { range = h.llsn; content = (h.content.1, h.content.2) }

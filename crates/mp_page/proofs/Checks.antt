@@ -6,7 +6,7 @@ use Rattle.mp_cells.specs.declared.kinds.Kind.TheVariants.{Blank, Meta, Leaf, In
 use Rattle.mp_cells.specs.declared.faults.Fault.{Fault}
 use Rattle.mp_cells.specs.declared.faults.PageFault.{PageFault}
 use Rattle.mp_cells.specs.Numbers.{number_at}
-use Rattle.mp_page.specs.Grammar.{unless, first_of, padding_fault, is_count, has_fences, kind_of, cells_length, header_fault, page_format}
+use Rattle.mp_page.specs.Grammar.{unless, first_of, padding_fault, is_page_count, has_fences, kind_numbered, cells_length, header_fault, page_format}
 
 -- a test that passes, and the checks after it
 pub passes : (test : Bool) (fault : Fault) (offset : ℕ) (checks : List (Option PageFault)) → first_of (unless test fault offset ∷ checks) ≡ None → (test ≡ true) × (first_of checks ≡ None)
@@ -28,10 +28,10 @@ found_none check checks t h = rw t h
 pub record HeaderSound (bytes : List ℕ) : Type 0 where
   pub kind : nat_le (get_or bytes 0 0) 4 ≡ true
   pub format : (get_or bytes 1 0 == page_format) ≡ true
-  pub count : is_count (kind_of (get_or bytes 0 0)) (number_at 2 2 bytes) (drop 32 bytes) ≡ true
+  pub count : is_page_count (kind_numbered (get_or bytes 0 0)) (number_at 2 2 bytes) (drop 32 bytes) ≡ true
   pub zeros : padding_fault 4 (take 4 (drop 4 bytes)) ≡ None
   pub llsn : nat_lt (number_at 8 8 bytes) (2 ^ 62) ≡ true
-  pub fences : has_fences (kind_of (get_or bytes 0 0)) (number_at 16 8 bytes) (number_at 24 8 bytes) ≡ true
+  pub fences : has_fences (kind_numbered (get_or bytes 0 0)) (number_at 16 8 bytes) (number_at 24 8 bytes) ≡ true
 
 pub header_sound : (bytes : List ℕ) → header_fault bytes ≡ None → HeaderSound bytes
 unfolding header_fault
@@ -50,7 +50,7 @@ header_none bytes h =
     passed _ _ _ _ h.kind (passed _ _ _ _ h.format (passed _ _ _ _ h.count (found_none _ _ h.zeros (passed _ _ _ _ h.llsn (passed _ _ _ _ h.fences refl)))))
 
 -- the cells of a page end within it
-pub cells_end : (kind : Kind) (count : ℕ) (body : List ℕ) → is_count kind count body ≡ true → cells_length kind count ≤ 992
+pub cells_end : (kind : Kind) (count : ℕ) (body : List ℕ) → is_page_count kind count body ≡ true → cells_length kind count ≤ 992
 cells_end Blank count body h = omega arith
 cells_end Meta count body h = omega arith
 cells_end Leaf count body h = omega (arith, leb-true count 15 h)

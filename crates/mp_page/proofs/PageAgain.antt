@@ -19,17 +19,17 @@ use Rattle.mp_cells.specs.ChildCell.{child_cell, child_of, is_child_cell}
 use Rattle.mp_cells.specs.PageView.{PageView, blank_page, meta_page, leaf_page, inner_page, undo_page, is_leaf, is_inner, begins_at, AreBits, HasContent, IsPage, kind_number, count_of, bits_set}
 use Rattle.mp_cells.proofs.KeyOrder.{Rises-wider}
 use Rattle.mp_cells.proofs.PageRanges.{leaf_ranges, inner_ranges}
-use Rattle.mp_page.specs.Grammar.{page_format, page_header, page_cells, spelling, kind_of, read_as, page_of, is_count, has_fences, cell_key, cells_fault, cells_length, header_fault, body_fault, first_fault}
+use Rattle.mp_page.specs.Grammar.{page_format, page_header, page_cells, spelling, kind_numbered, read_as, page_of, is_page_count, has_fences, cell_key, cells_fault, cells_length, header_fault, body_fault, page_bytes_fault}
 use Rattle.mp_page.proofs.Checks.{header_none, passed, found_none}
 use Rattle.mp_page.proofs.Codecs.{AreBytes, row_codec, child_codec, keyed_none, undo_none, cells_again, length-cells}
-use Rattle.mp_page.proofs.PageSpelling.{zeros_pass, HeaderReads, header_reads, body_none, kind_of-kind_number}
+use Rattle.mp_page.proofs.PageSpelling.{zeros_pass, HeaderReads, header_reads, body_none, kind_numbered-kind_number}
 
 -- what is written of a page's body
 pub record BodyWritten (page : PageView) : Type 0 where
   pub count_fits : count_of page < 65536
   pub low_fits : page.low < 2 ^ 64
   pub high_fits : page.high < 2 ^ 64
-  pub is_counted : is_count page.kind (count_of page) (padded 992 0 (page_cells page)) ≡ true
+  pub is_counted : is_page_count page.kind (count_of page) (padded 992 0 (page_cells page)) ≡ true
   pub is_fenced : has_fences page.kind page.low page.high ≡ true
   pub cells : cells_fault page.kind (count_of page) page.low page.high (padded 992 0 (page_cells page)) ≡ None
   pub end : cells_length page.kind (count_of page) ≡ length (page_cells page)
@@ -133,7 +133,7 @@ sound_again : (bytes : List ℕ) (page : PageView) → page.llsn < 2 ^ 62 → Bo
     → (header_fault bytes ≡ None) × (body_fault bytes ≡ None) × (page_of bytes ≡ page)
 unfolding page_of
 sound_again bytes page llsn w h body =
-    let kind : kind_of (get_or bytes 0 0) ≡ page.kind = ap kind_of h.kind_is ∙ kind_of-kind_number page.kind in
+    let kind : kind_numbered (get_or bytes 0 0) ≡ page.kind = ap kind_numbered h.kind_is ∙ kind_numbered-kind_number page.kind in
     let rest : drop (32 + length (page_cells page)) bytes ≡ replicate (992 - length (page_cells page)) 0 =
     sym (drop-drop (length (page_cells page)) 32 bytes) ∙ ap (drop (length (page_cells page))) body ∙ drop_at (page_cells page) (replicate (992 - length (page_cells page)) 0) (length (page_cells page)) refl in (
       header_none bytes (record {
@@ -152,8 +152,8 @@ sound_again bytes page llsn w h body =
     )
 
 -- a page's spelling
-pub spelling-sound : (page : PageView) → IsPage page → (first_fault (spelling page) ≡ None) × (page_of (spelling page) ≡ page)
-unfolding first_fault spelling
+pub spelling-sound : (page : PageView) → IsPage page → (page_bytes_fault (spelling page) ≡ None) × (page_of (spelling page) ≡ page)
+unfolding page_bytes_fault spelling
 spelling-sound page h =
     let w = written page.kind page h.content in
     let reads = header_reads (kind_number page.kind) (count_of page) page.llsn page.low page.high (padded 992 0 (page_cells page)) w.count_fits (omega (arith, h.llsn)) w.low_fits w.high_fits in
@@ -162,5 +162,5 @@ spelling-sound page h =
     (found_none _ _ both.0 (found_none _ _ both.1 refl), both.2)
 
 -- so bytes that spell a page are read as it, and have no fault
-pub spelled_so : (bytes : List ℕ) (page : PageView) → IsPage page → bytes ≡ spelling page → (first_fault bytes ≡ None) × (page_of bytes ≡ page)
+pub spelled_so : (bytes : List ℕ) (page : PageView) → IsPage page → bytes ≡ spelling page → (page_bytes_fault bytes ≡ None) × (page_of bytes ≡ page)
 spelled_so bytes page h e = rw e (spelling-sound page h)

@@ -20,7 +20,7 @@ use Rattle.mp_cells.specs.ChildCell.{child_cell, child_of, is_child_cell}
 use Rattle.mp_cells.specs.PageView.{PageView, begins_at, HasContent, IsPage, kind_number, count_of, bits_set}
 use Rattle.mp_cells.proofs.NumberBytes.{written_again}
 use Rattle.mp_cells.proofs.KeyOrder.{test-from_Rises}
-use Rattle.mp_page.specs.Grammar.{page_format, header_bytes, page_header, page_cells, spelling, kind_of, read_as, page_of, padding_fault, is_count, has_fences, cell_key, keyed_fault, cells_fault, cells_length, header_fault, body_fault, first_fault, unless, rows_of, children_of}
+use Rattle.mp_page.specs.Grammar.{page_format, header_bytes, page_header, page_cells, spelling, kind_numbered, read_as, page_of, padding_fault, is_page_count, has_fences, cell_key, keyed_fault, cells_fault, cells_length, header_fault, body_fault, page_bytes_fault, unless, rows_of, children_of}
 use Rattle.mp_page.proofs.Checks.{HeaderSound, header_sound, cells_end, passes, finds_none, found_none}
 use Rattle.mp_page.proofs.Codecs.{AreBytes, AreBytes-drop, row_codec, child_codec, keyed_sound, undo_sound}
 
@@ -130,24 +130,24 @@ first_child : (count low : ℕ) (body : List ℕ) → 1 ≤ count → cell_key b
 first_child zero low body h e = absurd (omega arith)
 first_child (suc n) low body h e = eq-eqb _ low (child_codec.keyed body ∙ e)
 
-body_reads : (kind : Kind) (count llsn low high : ℕ) (body : List ℕ) → length body ≡ 992 → AreBytes body → is_count kind count body ≡ true → has_fences kind low high ≡ true → cells_fault kind count low high body ≡ None
+body_reads : (kind : Kind) (count llsn low high : ℕ) (body : List ℕ) → length body ≡ 992 → AreBytes body → is_page_count kind count body ≡ true → has_fences kind low high ≡ true → cells_fault kind count low high body ≡ None
     → BodyReads kind count llsn low high body (read_as kind count llsn low high body)
-body_reads Blank count llsn low high body long fits is_count fences cells =
+body_reads Blank count llsn low high body long fits is_page_count fences cells =
     let no = no_fences low high fences in
-    record { kind_is = refl; count_is = sym (eqb-true count 0 is_count); llsn_is = refl; low_is = sym no.0; high_is = sym no.1; cells = refl; content = refl }
-body_reads Meta count llsn low high body long fits is_count fences cells =
+    record { kind_is = refl; count_is = sym (eqb-true count 0 is_page_count); llsn_is = refl; low_is = sym no.0; high_is = sym no.1; cells = refl; content = refl }
+body_reads Meta count llsn low high body long fits is_page_count fences cells =
     let no = no_fences low high fences in
     record {
       kind_is = refl;
-      count_is = sym (eqb-true count (bits_set (take 512 body)) is_count);
+      count_is = sym (eqb-true count (bits_set (take 512 body)) is_page_count);
       llsn_is = refl;
       low_is = sym no.0;
       high_is = sym no.1;
       cells = refl;
       content = (refl, record { count = length-take-le 512 body (omega arith); bytes = AreBytes-take 512 body fits });
     }
-body_reads Leaf count llsn low high body long fits is_count fences cells =
-    let most = leb-true count 15 is_count in
+body_reads Leaf count llsn low high body long fits is_page_count fences cells =
+    let most = leb-true count 15 is_page_count in
     let s = keyed_sound is_row_cell 64 row_of row_cell IsRow (λ row. row.key) row_codec low high count 32 0 body (omega arith) fits cells in
     let at_most : nat_le (length (rows_of count body)) 15 ≡ true = le-leb _ 15 (omega (arith, s.0.count)) in
     record {
@@ -159,8 +159,8 @@ body_reads Leaf count llsn low high body long fits is_count fences cells =
       cells = s.0.spelled;
       content = (refl, and_from _ _ (and_from _ _ fences at_most) (test-from_Rises (λ (row : Row). row.key) low high (rows_of count body) s.2), s.0.kept);
     }
-body_reads Inner count llsn low high body long fits is_count fences cells =
-    let range = and_parts (nat_le 1 count) (nat_le count 124) is_count in
+body_reads Inner count llsn low high body long fits is_page_count fences cells =
+    let range = and_parts (nat_le 1 count) (nat_le count 124) is_page_count in
     let least = leb-true 1 count range.0 in
     let most = leb-true count 124 range.1 in
     let a = passes (is_child_cell body) faults.Cell 32 (unless (cell_key body == low) faults.Fence 32 ∷ keyed_fault is_child_cell 8 low high count 32 0 body ∷ []) cells in
@@ -178,8 +178,8 @@ body_reads Inner count llsn low high body long fits is_count fences cells =
       cells = s.0.spelled;
       content = (refl, and_from _ _ (and_from _ _ (and_from _ _ fences first) at_most) (test-from_Rises (λ (child : Child). child.low) low high (children_of count body) s.2), s.0.kept);
     }
-body_reads Undo count llsn low high body long fits is_count fences cells =
-    let most = leb-true count 15 is_count in
+body_reads Undo count llsn low high body long fits is_page_count fences cells =
+    let most = leb-true count 15 is_page_count in
     let no = no_fences low high fences in
     let s = undo_sound count 32 body (omega arith) fits cells in
     record {
@@ -194,39 +194,39 @@ body_reads Undo count llsn low high body long fits is_count fences cells =
 
 -- ---- both ways
 
-kind_number-kind_of : (n : ℕ) → n ≤ 4 → kind_number (kind_of n) ≡ n
-kind_number-kind_of zero h = refl
-kind_number-kind_of (suc zero) h = refl
-kind_number-kind_of (suc (suc zero)) h = refl
-kind_number-kind_of (suc (suc (suc zero))) h = refl
-kind_number-kind_of (suc (suc (suc (suc zero)))) h = refl
-kind_number-kind_of (suc (suc (suc (suc (suc n))))) h = absurd (omega arith)
+kind_number-kind_numbered : (n : ℕ) → n ≤ 4 → kind_number (kind_numbered n) ≡ n
+kind_number-kind_numbered zero h = refl
+kind_number-kind_numbered (suc zero) h = refl
+kind_number-kind_numbered (suc (suc zero)) h = refl
+kind_number-kind_numbered (suc (suc (suc zero))) h = refl
+kind_number-kind_numbered (suc (suc (suc (suc zero)))) h = refl
+kind_number-kind_numbered (suc (suc (suc (suc (suc n))))) h = absurd (omega arith)
 
-pub kind_of-kind_number : (kind : Kind) → kind_of (kind_number kind) ≡ kind
-kind_of-kind_number Blank = refl
-kind_of-kind_number Meta = refl
-kind_of-kind_number Leaf = refl
-kind_of-kind_number Inner = refl
-kind_of-kind_number Undo = refl
+pub kind_numbered-kind_number : (kind : Kind) → kind_numbered (kind_number kind) ≡ kind
+kind_numbered-kind_number Blank = refl
+kind_numbered-kind_number Meta = refl
+kind_numbered-kind_number Leaf = refl
+kind_numbered-kind_number Inner = refl
+kind_numbered-kind_number Undo = refl
 
 -- where the cells end, the rest are zeros
 pub record BodySound (bytes : List ℕ) : Type 0 where
-  pub cells : cells_fault (kind_of (get_or bytes 0 0)) (number_at 2 2 bytes) (number_at 16 8 bytes) (number_at 24 8 bytes) (drop 32 bytes) ≡ None
-  pub rest : padding_fault (32 + cells_length (kind_of (get_or bytes 0 0)) (number_at 2 2 bytes)) (drop (32 + cells_length (kind_of (get_or bytes 0 0)) (number_at 2 2 bytes)) bytes) ≡ None
+  pub cells : cells_fault (kind_numbered (get_or bytes 0 0)) (number_at 2 2 bytes) (number_at 16 8 bytes) (number_at 24 8 bytes) (drop 32 bytes) ≡ None
+  pub rest : padding_fault (32 + cells_length (kind_numbered (get_or bytes 0 0)) (number_at 2 2 bytes)) (drop (32 + cells_length (kind_numbered (get_or bytes 0 0)) (number_at 2 2 bytes)) bytes) ≡ None
 
 body_sound : (bytes : List ℕ) → body_fault bytes ≡ None → BodySound bytes
 unfolding body_fault
 body_sound bytes h =
-    let a = finds_none (cells_fault (kind_of (get_or bytes 0 0)) (number_at 2 2 bytes) (number_at 16 8 bytes) (number_at 24 8 bytes) (drop 32 bytes)) _ h in
-    let b = finds_none (padding_fault (32 + cells_length (kind_of (get_or bytes 0 0)) (number_at 2 2 bytes)) (drop (32 + cells_length (kind_of (get_or bytes 0 0)) (number_at 2 2 bytes)) bytes)) [] a.1 in
+    let a = finds_none (cells_fault (kind_numbered (get_or bytes 0 0)) (number_at 2 2 bytes) (number_at 16 8 bytes) (number_at 24 8 bytes) (drop 32 bytes)) _ h in
+    let b = finds_none (padding_fault (32 + cells_length (kind_numbered (get_or bytes 0 0)) (number_at 2 2 bytes)) (drop (32 + cells_length (kind_numbered (get_or bytes 0 0)) (number_at 2 2 bytes)) bytes)) [] a.1 in
     record { cells = a.0; rest = b.0 }
 
 pub body_none : (bytes : List ℕ) → BodySound bytes → body_fault bytes ≡ None
 unfolding body_fault
 body_none bytes h = found_none _ _ h.cells (found_none _ _ h.rest refl)
 
-pub faults_none : (bytes : List ℕ) → first_fault bytes ≡ None → HeaderSound bytes × BodySound bytes
-unfolding first_fault
+pub faults_none : (bytes : List ℕ) → page_bytes_fault bytes ≡ None → HeaderSound bytes × BodySound bytes
+unfolding page_bytes_fault
 faults_none bytes h =
     let a = finds_none (header_fault bytes) (body_fault bytes ∷ []) h in
     let b = finds_none (body_fault bytes) [] a.1 in
@@ -246,23 +246,23 @@ body_spelled body cells end place size within front rest =
     sym (take-append-drop end body) ∙ ap (λ (x : List ℕ). x ++ drop end body) front ∙ ap (λ (x : List ℕ). cells ++ x) tail
 
 page_sound : (bytes : List ℕ) (page : PageView) → length bytes ≡ 1024 → AreBytes bytes → HeaderSound bytes → BodySound bytes
-    → BodyReads (kind_of (get_or bytes 0 0)) (number_at 2 2 bytes) (number_at 8 8 bytes) (number_at 16 8 bytes) (number_at 24 8 bytes) (drop 32 bytes) page
+    → BodyReads (kind_numbered (get_or bytes 0 0)) (number_at 2 2 bytes) (number_at 8 8 bytes) (number_at 16 8 bytes) (number_at 24 8 bytes) (drop 32 bytes) page
     → IsPage page × (bytes ≡ spelling page)
 page_sound bytes page long fits header body reads =
-    let end = cells_length (kind_of (get_or bytes 0 0)) (number_at 2 2 bytes) in
+    let end = cells_length (kind_numbered (get_or bytes 0 0)) (number_at 2 2 bytes) in
     let size : length (drop 32 bytes) ≡ 992 = omega (arith, length-drop 32 bytes) in
-    let within = cells_end (kind_of (get_or bytes 0 0)) (number_at 2 2 bytes) (drop 32 bytes) header.count in
-    let number : kind_number page.kind ≡ get_or bytes 0 0 = ap kind_number reads.kind_is ∙ kind_number-kind_of (get_or bytes 0 0) (leb-true (get_or bytes 0 0) 4 header.kind) in
+    let within = cells_end (kind_numbered (get_or bytes 0 0)) (number_at 2 2 bytes) (drop 32 bytes) header.count in
+    let number : kind_number page.kind ≡ get_or bytes 0 0 = ap kind_number reads.kind_is ∙ kind_number-kind_numbered (get_or bytes 0 0) (leb-true (get_or bytes 0 0) 4 header.kind) in
     let front : take 32 bytes ≡ page_header page = header_again bytes long fits header.format header.zeros ∙ rw (number, reads.count_is, reads.llsn_is, reads.low_is, reads.high_is) refl in
     let rest : padding_fault (32 + end) (drop end (drop 32 bytes)) ≡ None = ap (padding_fault (32 + end)) (drop-drop end 32 bytes) ∙ body.rest in
     let back = body_spelled (drop 32 bytes) (page_cells page) end (32 + end) size within reads.cells rest in
     (record { llsn = rw reads.llsn_is (ltb-true (number_at 8 8 bytes) (2 ^ 62) header.llsn); content = reads.content }, spelled bytes page front back)
 
 -- bytes without a fault are read as a page, and are its spelling
-pub page_of-sound : (bytes : List ℕ) → length bytes ≡ 1024 → AreBytes bytes → first_fault bytes ≡ None → IsPage (page_of bytes) × (bytes ≡ spelling (page_of bytes))
+pub page_of-sound : (bytes : List ℕ) → length bytes ≡ 1024 → AreBytes bytes → page_bytes_fault bytes ≡ None → IsPage (page_of bytes) × (bytes ≡ spelling (page_of bytes))
 unfolding page_of
 page_of-sound bytes long fits h =
     let sound = faults_none bytes h in
     let size : length (drop 32 bytes) ≡ 992 = omega (arith, length-drop 32 bytes) in
     page_sound bytes (page_of bytes) long fits sound.0 sound.1
-    (body_reads (kind_of (get_or bytes 0 0)) (number_at 2 2 bytes) (number_at 8 8 bytes) (number_at 16 8 bytes) (number_at 24 8 bytes) (drop 32 bytes) size (AreBytes-drop 32 bytes fits) sound.0.count sound.0.fences sound.1.cells)
+    (body_reads (kind_numbered (get_or bytes 0 0)) (number_at 2 2 bytes) (number_at 8 8 bytes) (number_at 16 8 bytes) (number_at 24 8 bytes) (drop 32 bytes) size (AreBytes-drop 32 bytes fits) sound.0.count sound.0.fences sound.1.cells)

@@ -42,12 +42,12 @@ unfoldable pub spelling : PageView → List ℕ
 spelling page = page_header page ++ padded 992 0 (page_cells page)
 
 -- the kind with a number
-abbrev pub kind_of : ℕ → Kind
-kind_of zero = Blank
-kind_of (suc zero) = Meta
-kind_of (suc (suc zero)) = Leaf
-kind_of (suc (suc (suc zero))) = Inner
-kind_of (suc (suc (suc (suc n)))) = Undo
+abbrev pub kind_numbered : ℕ → Kind
+kind_numbered zero = Blank
+kind_numbered (suc zero) = Meta
+kind_numbered (suc (suc zero)) = Leaf
+kind_numbered (suc (suc (suc zero))) = Inner
+kind_numbered (suc (suc (suc (suc n)))) = Undo
 
 -- so many cells, each so wide, read one after another
 abbrev pub cells_of : {X : Type 0} → (List ℕ → X) → ℕ → ℕ → List ℕ → List X
@@ -70,7 +70,7 @@ read_as Undo count llsn low high body = undo_page llsn (rows_of count body)
 
 -- the page that bytes are read as, whatever they are
 unfoldable pub page_of : List ℕ → PageView
-page_of bytes = read_as (kind_of (slice_index bytes 0)) (number_at 2 2 bytes) (number_at 8 8 bytes) (number_at 16 8 bytes) (number_at 24 8 bytes) (drop 32 bytes)
+page_of bytes = read_as (kind_numbered (slice_index bytes 0)) (number_at 2 2 bytes) (number_at 8 8 bytes) (number_at 16 8 bytes) (number_at 24 8 bytes) (drop 32 bytes)
 
 -- a fault at an offset, unless a test holds
 abbrev pub unless : Bool → Fault → ℕ → Option PageFault
@@ -89,12 +89,12 @@ padding_fault place [] = None
 padding_fault place (byte ∷ bytes) = if byte == 0 then padding_fault (place + 1) bytes else Some (record { fault = faults.Padding; offset = place })
 
 -- the counts that pages of a kind have; the meta page's count is that of its set bits
-abbrev pub is_count : Kind → ℕ → List ℕ → Bool
-is_count Blank count body = count == 0
-is_count Meta count body = count == bits_set (take 512 body)
-is_count Leaf count body = nat_le count 15
-is_count Inner count body = nat_le 1 count && nat_le count 124
-is_count Undo count body = nat_le count 15
+abbrev pub is_page_count : Kind → ℕ → List ℕ → Bool
+is_page_count Blank count body = count == 0
+is_page_count Meta count body = count == bits_set (take 512 body)
+is_page_count Leaf count body = nat_le count 15
+is_page_count Inner count body = nat_le 1 count && nat_le count 124
+is_page_count Undo count body = nat_le count 15
 
 -- the fences that pages of a kind have
 abbrev pub has_fences : Kind → ℕ → ℕ → Bool
@@ -155,10 +155,10 @@ cells_length Undo count = 64 * count
 
 -- the first fault of a header
 unfoldable pub header_fault : List ℕ → Option PageFault
-header_fault bytes = let kind = kind_of (slice_index bytes 0) in first_of (
+header_fault bytes = let kind = kind_numbered (slice_index bytes 0) in first_of (
     unless (nat_le (slice_index bytes 0) 4) faults.Kind 0
     ∷ unless (slice_index bytes 1 == page_format) faults.Kind 1
-    ∷ unless (is_count kind (number_at 2 2 bytes) (drop 32 bytes)) faults.Count 2
+    ∷ unless (is_page_count kind (number_at 2 2 bytes) (drop 32 bytes)) faults.Count 2
     ∷ padding_fault 4 (take 4 (drop 4 bytes))
     ∷ unless (nat_lt (number_at 8 8 bytes) (2 ^ 62)) faults.Fence 8
     ∷ unless (has_fences kind (number_at 16 8 bytes) (number_at 24 8 bytes)) faults.Fence 16
@@ -167,7 +167,7 @@ header_fault bytes = let kind = kind_of (slice_index bytes 0) in first_of (
 -- the first fault of a body, where the header has none
 unfoldable pub body_fault : List ℕ → Option PageFault
 body_fault bytes =
-    let kind = kind_of (slice_index bytes 0) in
+    let kind = kind_numbered (slice_index bytes 0) in
     let end = 32 + cells_length kind (number_at 2 2 bytes) in
     first_of (
     cells_fault kind (number_at 2 2 bytes) (number_at 16 8 bytes) (number_at 24 8 bytes) (drop 32 bytes)
@@ -175,5 +175,5 @@ body_fault bytes =
     ∷ [])
 
 -- the first fault of the bytes of a page
-unfoldable pub first_fault : List ℕ → Option PageFault
-first_fault bytes = first_of (header_fault bytes ∷ body_fault bytes ∷ [])
+unfoldable pub page_bytes_fault : List ℕ → Option PageFault
+page_bytes_fault bytes = first_of (header_fault bytes ∷ body_fault bytes ∷ [])

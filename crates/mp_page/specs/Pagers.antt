@@ -13,7 +13,7 @@ abbrev pub Extends : (ℕ → PageView) → Handed → Type 0
 Extends pages handed = (n : ℕ) (page : PageView) → handed n ≡ Some page → pages n ≡ page
 
 -- a call for a page hands out that page, or answers what it waits for
-pub record Hands {P : Type 0} (handed : P → Handed) (waits : P → ℕ) (last : P → NotYet) (follows : P → P → Type 0) (old new : P) (number : ℕ) (result : Result (Bor PageView) NotYet) : Type 0 where
+pub record Hands {P : Type 0} (handed : P → Handed) (waits : P → ℕ) (last : P → NotYet) (follows : P → P → Type 0) (withholds : P → ℕ → Type 0) (old new : P) (number : ℕ) (result : Result (Bor PageView) NotYet) : Type 0 where
   pub same : follows old new
   -- no page is changed or taken back, and no other is added
   pub kept : (n : ℕ) (page : PageView) → handed old n ≡ Some page → handed new n ≡ Some page
@@ -23,3 +23,4 @@ pub record Hands {P : Type 0} (handed : P → Handed) (waits : P → ℕ) (last 
   pub quiet : OnOk result ((waits new ≡ waits old) × (last new ≡ last old))
   -- otherwise nothing is handed out, and the count of waits rises, up to its type's end
   pub waited : IfErr result (λ wait. (handed new number ≡ handed old number) × (min (waits old + 1) (2 ^ 64 - 1) ≤ waits new) × (last new ≡ wait))
+  pub withheld : IfErr result (λ wait. withholds new number)

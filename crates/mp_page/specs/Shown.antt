@@ -10,12 +10,12 @@ use Rattle.mp_page.specs.declared.body.Body.{Body}
 use Rattle.mp_page.specs.declared.body.Body.TheVariants.{Blank, Meta, Leaf, Inner, Undo}
 
 -- the page of an LLSN and a body
-abbrev pub shown : ℕ → Body → PageView
-shown llsn Blank = blank_page llsn
-shown llsn (Meta bits) = meta_page llsn bits
-shown llsn (Leaf low high rows) = leaf_page llsn low high rows
-shown llsn (Inner low high children) = inner_page llsn low high children
-shown llsn (Undo rows) = undo_page llsn rows
+abbrev pub page_shown : ℕ → Body → PageView
+page_shown llsn Blank = blank_page llsn
+page_shown llsn (Meta bits) = meta_page llsn bits
+page_shown llsn (Leaf low high rows) = leaf_page llsn low high rows
+page_shown llsn (Inner low high children) = inner_page llsn low high children
+page_shown llsn (Undo rows) = undo_page llsn rows
 
 -- a body of a page that there may be
 abbrev pub IsBody : Body → Type 0
@@ -26,7 +26,7 @@ IsBody (Inner low high children) = IsTrue (is_inner low high children) × AllByR
 IsBody (Undo rows) = (length rows ≤ 15) × AllByRecursion IsRow rows
 
 -- a page is kept with such a body
-pub record IsKept (llsn : ℕ) (body : Body) : Type 0 where
+pub record IsKeptPage (llsn : ℕ) (body : Body) : Type 0 where
   pub range : llsn < 2 ^ 62
   pub content : IsBody body
 
@@ -42,14 +42,14 @@ body_of page = by_kind page.kind
     by_kind kinds.Undo = Undo page.rows
 
 -- which is the one that is shown
-pub body_of-shown : (llsn : ℕ) (body : Body) → body_of (shown llsn body) ≡ body
+pub body_of-shown : (llsn : ℕ) (body : Body) → body_of (page_shown llsn body) ≡ body
 body_of-shown llsn Blank = refl
 body_of-shown llsn (Meta bits) = refl
 body_of-shown llsn (Leaf low high rows) = refl
 body_of-shown llsn (Inner low high children) = refl
 body_of-shown llsn (Undo rows) = refl
 
-pub llsn-shown : (llsn : ℕ) (body : Body) → (shown llsn body).llsn ≡ llsn
+pub llsn-shown : (llsn : ℕ) (body : Body) → (page_shown llsn body).llsn ≡ llsn
 llsn-shown llsn Blank = refl
 llsn-shown llsn (Meta bits) = refl
 llsn-shown llsn (Leaf low high rows) = refl

@@ -4,7 +4,7 @@ ghost use Rattle.std.specs.Prelude.{◌≡◌, ℕ, ◌==◌, ◌&&◌, nat_le, 
 ghost use Rattle.mp_cells.specs.declared.changes.Change.TheVariants.{MakeLeaf, MakeInner, MakeUndo, PutRow, RestoreRow, Cut, PutChild, PutUndo, TakePage};
 ghost use Rattle.mp_cells.specs.PageView.{is_leaf, is_inner, begins_at, leaf_page, inner_page, bit_of};
 ghost use Rattle.mp_cells.specs.Changes.{Applies, HasCells, can_be_inner, takes_row, takes_child};
-ghost use Rattle.mp_page.specs.Shown.{shown, IsBody};
+ghost use Rattle.mp_page.specs.Shown.{page_shown, IsBody};
 
 use crate::bits::{is_taken, set_bit};
 use crate::body::Body;
@@ -25,7 +25,7 @@ pub fn apply(page: &mut Page, change: &Change) -> Result<(), NotApplicable>
 pub(crate) fn change_body(body: &mut Body, change: &Change) -> Result<(), NotApplicable>
     requires cells { HasCells change.now }
     requires kept { IsBody body.old }
-    ensures { (llsn : ℕ) → Applies change.now (shown llsn body.old) (shown llsn body.new) result }
+    ensures { (llsn : ℕ) → Applies change.now (page_shown llsn body.old) (page_shown llsn body.new) result }
 {
     match change {
         Change::MakeLeaf { low, high, rows } => make_leaf(body, *low, *high, rows),
@@ -45,7 +45,7 @@ pub(crate) fn change_body(body: &mut Body, change: &Change) -> Result<(), NotApp
 }
 
 fn make_leaf(body: &mut Body, low: u64, high: u64, rows: &RowCells) -> Result<(), NotApplicable>
-    ensures { (llsn : ℕ) → Applies (MakeLeaf low high rows.now) (shown llsn body.old) (shown llsn body.new) result }
+    ensures { (llsn : ℕ) → Applies (MakeLeaf low high rows.now) (page_shown llsn body.old) (page_shown llsn body.new) result }
 {
     let Body::Blank = body else {
         return Err(NotApplicable);
@@ -73,7 +73,7 @@ fn make_inner(
     high: u64,
     children: &ChildCells,
 ) -> Result<(), NotApplicable>
-    ensures { (llsn : ℕ) → Applies (MakeInner low high children.now) (shown llsn body.old) (shown llsn body.new) result }
+    ensures { (llsn : ℕ) → Applies (MakeInner low high children.now) (page_shown llsn body.old) (page_shown llsn body.new) result }
 {
     if !can_be_inner(body, low, high) || !is_inner(low, high, children) {
         return Err(NotApplicable);
@@ -87,7 +87,7 @@ fn make_inner(
 }
 
 fn can_be_inner(body: &Body, low: u64, high: u64) -> bool
-    ensures { (llsn : ℕ) → result ≡ can_be_inner low high (shown llsn body.now) }
+    ensures { (llsn : ℕ) → result ≡ can_be_inner low high (page_shown llsn body.now) }
 {
     match body {
         Body::Blank => true,
@@ -124,7 +124,7 @@ fn begins_at(low: u64, children: &[Child]) -> bool
 }
 
 fn make_undo(body: &mut Body) -> Result<(), NotApplicable>
-    ensures { (llsn : ℕ) → Applies MakeUndo (shown llsn body.old) (shown llsn body.new) result }
+    ensures { (llsn : ℕ) → Applies MakeUndo (page_shown llsn body.old) (page_shown llsn body.new) result }
 {
     let Body::Blank = body else {
         return Err(NotApplicable);
@@ -135,7 +135,7 @@ fn make_undo(body: &mut Body) -> Result<(), NotApplicable>
 
 fn put_row(body: &mut Body, row: &Row) -> Result<(), NotApplicable>
     requires { IsBody body.old }
-    ensures { (llsn : ℕ) → Applies (PutRow row.now) (shown llsn body.old) (shown llsn body.new) result }
+    ensures { (llsn : ℕ) → Applies (PutRow row.now) (page_shown llsn body.old) (page_shown llsn body.new) result }
 {
     let Body::Leaf { low, high, rows } = body else {
         return Err(NotApplicable);
@@ -157,7 +157,7 @@ fn takes_row(low: u64, high: u64, rows: &RowCells, row: &Row) -> bool
 
 fn restore_row(body: &mut Body, row: &Row) -> Result<(), NotApplicable>
     requires { IsBody body.old }
-    ensures { (llsn : ℕ) → Applies (RestoreRow row.now) (shown llsn body.old) (shown llsn body.new) result }
+    ensures { (llsn : ℕ) → Applies (RestoreRow row.now) (page_shown llsn body.old) (page_shown llsn body.new) result }
 {
     let Body::Leaf { rows, .. } = body else {
         return Err(NotApplicable);
@@ -171,7 +171,7 @@ fn restore_row(body: &mut Body, row: &Row) -> Result<(), NotApplicable>
 
 fn cut(body: &mut Body, from: u32) -> Result<(), NotApplicable>
     requires { IsBody body.old }
-    ensures { (llsn : ℕ) → Applies (Cut from) (shown llsn body.old) (shown llsn body.new) result }
+    ensures { (llsn : ℕ) → Applies (Cut from) (page_shown llsn body.old) (page_shown llsn body.new) result }
 {
     match body {
         Body::Leaf { low, high, rows } => {
@@ -206,7 +206,7 @@ fn is_between(low: u64, high: u64, key: u32) -> bool
 
 fn put_child(body: &mut Body, child: &Child) -> Result<(), NotApplicable>
     requires { IsBody body.old }
-    ensures { (llsn : ℕ) → Applies (PutChild child.now) (shown llsn body.old) (shown llsn body.new) result }
+    ensures { (llsn : ℕ) → Applies (PutChild child.now) (page_shown llsn body.old) (page_shown llsn body.new) result }
 {
     let Body::Inner {
         low,
@@ -232,7 +232,7 @@ fn takes_child(low: u64, high: u64, children: &ChildCells, child: &Child) -> boo
 
 fn put_undo(body: &mut Body, row: &Row) -> Result<(), NotApplicable>
     requires { IsBody body.old }
-    ensures { (llsn : ℕ) → Applies (PutUndo row.now) (shown llsn body.old) (shown llsn body.new) result }
+    ensures { (llsn : ℕ) → Applies (PutUndo row.now) (page_shown llsn body.old) (page_shown llsn body.new) result }
 {
     let Body::Undo(rows) = body else {
         return Err(NotApplicable);
@@ -246,7 +246,7 @@ fn put_undo(body: &mut Body, row: &Row) -> Result<(), NotApplicable>
 
 fn take_page(body: &mut Body, page: u16) -> Result<(), NotApplicable>
     requires { IsBody body.old }
-    ensures { (llsn : ℕ) → Applies (TakePage page) (shown llsn body.old) (shown llsn body.new) result }
+    ensures { (llsn : ℕ) → Applies (TakePage page) (page_shown llsn body.old) (page_shown llsn body.new) result }
 {
     let Body::Meta(bits) = body else {
         return Err(NotApplicable);

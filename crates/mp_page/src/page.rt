@@ -1,20 +1,20 @@
 //! Pages.
 
-ghost use Rattle.std.specs.Prelude.{◌≡◌, ℕ, ◌<◌, ◌≤◌, ◌^◌, ◌==◌, length, slice_get, replicate, Some, IsTrue, IfSome};
+ghost use Rattle.std.specs.Prelude.{◌≡◌, ℕ, ◌<◌, ◌≤◌, ◌^◌, ◌==◌, ◌↔◌, length, slice_get, replicate, Some, IsTrue, IfSome};
 ghost use Rattle.std.specs.List.{AllByRecursion};
 ghost use Rattle.mp_model.specs.Padded.{padded};
 ghost use Rattle.mp_cells.specs.declared.kinds.Kind.TheVariants.{Meta, Leaf, Inner, Undo};
 ghost use Rattle.mp_cells.specs.Rows.{IsRow};
 ghost use Rattle.mp_cells.specs.Children.{IsChild};
-ghost use Rattle.mp_cells.specs.PageView.{IsPage, blank_page, count_of, bit_of, is_of};
+ghost use Rattle.mp_cells.specs.PageView.{IsPage, SameContent, blank_page, count_of, bit_of, without_bit, is_of};
 ghost use Rattle.mp_cells.specs.Changes.{Applies, HasCells};
-ghost use Rattle.mp_page.specs.Grammar.{page_cells};
+ghost use Rattle.mp_page.specs.Grammar.{page_cells, spelling};
 
-use crate::bits::is_taken;
+use crate::bits::{clear_bit, is_taken};
 use crate::body::Body;
 use crate::changing::change_body;
 use crate::reading::bits_set;
-use crate::writing::{write_children, write_rows};
+use crate::writing::{write_children, write_page, write_rows};
 use mp_cells::{Change, Child, Kind, NotApplicable, Row};
 use std::marker::Model;
 
@@ -30,11 +30,11 @@ impl Model for Page {
 
     ghost Value = { PageView };
 
-    ghost use Rattle.mp_page.specs.Shown.{shown, IsKept, body_of, body_of-shown, llsn-shown};
+    ghost use Rattle.mp_page.specs.Shown.{page_shown, IsKeptPage, body_of, body_of-shown, llsn-shown};
 
-    ghost view = { λ p. shown p.llsn p.body };
+    ghost view = { λ p. page_shown p.llsn p.body };
 
-    ghost invariant = { λ p. IsKept p.llsn p.body };
+    ghost invariant = { λ p. IsKeptPage p.llsn p.body };
 
     ghost inverse = { λ d. record { llsn = d.llsn; body = body_of d } };
 
@@ -42,7 +42,7 @@ impl Model for Page {
 }
 
 impl Page {
-    ghost use Rattle.mp_page.specs.Shown.{shown};
+    ghost use Rattle.mp_page.specs.Shown.{page_shown};
 
     /// The blank page with LLSN 0.
     pub fn blank() -> Page
@@ -56,8 +56,8 @@ impl Page {
 
     /// The page with this LLSN and body.
     pub(crate) fn new(llsn: u64, body: Body) -> Page
-        requires { IsPage (shown llsn body) }
-        ensures { result ≡ shown llsn body }
+        requires { IsPage (page_shown llsn body) }
+        ensures { result ≡ page_shown llsn body }
     {
         Page { llsn, body }
     }
@@ -149,6 +149,37 @@ impl Page {
             Body::Meta(bits) => is_taken(bits.as_slice(), page),
             _ => unreachable!(),
         }
+    }
+
+    /// Clears the bit of a page (below 4,096), on the meta page. All else stays, the LLSN too.
+    pub fn free(&mut self, page: u16)
+        requires meta { IsTrue (is_of Meta self.old) }
+        requires range { page < 4096 }
+        ensures { self.new ≡ record self.old { bits = without_bit self.old.bits page } }
+    {
+        match &mut self.body {
+            Body::Meta(bits) => clear_bit(&mut bits[..], page),
+            _ => unreachable!(),
+        }
+    }
+
+    /// Whether two pages differ in nothing but their LLSNs.
+    pub fn shows_as(&self, other: &Page) -> bool
+        ensures { IsTrue result ↔ SameContent self.now other.now }
+    {
+        self.content_bytes() == other.content_bytes()
+    }
+
+    // The bytes of the page with LLSN 0. No two pages with one LLSN have the same bytes.
+    fn content_bytes(&self) -> [u8; 1024]
+        ensures value { result ≡ spelling (record self.now { llsn = 0 }) }
+        ensures page { IsPage self.now }
+    {
+        let mut page = *self;
+        page.llsn = 0;
+        let mut bytes = [0; 1024];
+        write_page(&page, &mut bytes);
+        bytes
     }
 
     /// The i-th row of a leaf or an undo page, from 0.

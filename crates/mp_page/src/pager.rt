@@ -24,12 +24,15 @@ pub trait Pager {
     /// The second is the first after some calls.
     ghost follows: { Self → Self → Type 0 };
 
+    /// The page with this number is what it answered `NotYet` for.
+    ghost withholds: { Self → ℕ → Type 0 };
+
     ghost follows_self: { (pager : Self) → follows pager pager };
 
     ghost follows_on: { (a b c : Self) → follows a b → follows b c → follows a c };
 
-    /// The page with this number.
+    /// The page with this number. On `NotYet` no page is handed out, and the page asked for is one that it withholds.
     fn page(&mut self, number: u16) -> Result<&Page, NotYet>
         requires { number < 4096 }
-        ensures* hands { sem 𝓛 (Rests Self.row self.entry (λ new. Hands handed waits last follows self.old new number result)) };
+        ensures* hands { sem 𝓛 (Rests Self.row self.entry (λ new. Hands handed waits last follows withholds self.old new number result)) };
 }

@@ -5,8 +5,8 @@ ghost use Rattle.mp_cells.specs.Numbers.{number_at};
 ghost use Rattle.mp_cells.specs.PageView.{PageView, IsPage, bits_set, are_fences, kind_number};
 ghost use Rattle.mp_cells.specs.RowCell.{is_row_cell};
 ghost use Rattle.mp_cells.specs.ChildCell.{is_child_cell};
-ghost use Rattle.mp_page.specs.Shown.{shown};
-ghost use Rattle.mp_page.specs.Grammar.{spelling, read_as, page_of, first_fault, header_fault, body_fault, cells_fault, cell_fault, keyed_fault, inner_fault, undo_fault, padding_fault, is_count, has_fences, kind_of, cells_length, rows_of, children_of};
+ghost use Rattle.mp_page.specs.Shown.{page_shown};
+ghost use Rattle.mp_page.specs.Grammar.{spelling, read_as, page_of, page_bytes_fault, header_fault, body_fault, cells_fault, cell_fault, keyed_fault, inner_fault, undo_fault, padding_fault, is_page_count, has_fences, kind_numbered, cells_length, rows_of, children_of};
 
 use crate::body::Body;
 use crate::page::Page;
@@ -24,7 +24,7 @@ pub fn read_page(bytes: &[u8; 1024]) -> Result<Page, PageFault>
     // The bytes that are a page's spelling are read as that page.
     ensures only { (page : PageView) → IsPage page → bytes.now ≡ spelling page → result ≡ Ok page }
     // Which fault it is.
-    ensures fault { IfErr result (λ fault. first_fault bytes.now ≡ Some fault) }
+    ensures fault { IfErr result (λ fault. page_bytes_fault bytes.now ≡ Some fault) }
 {
     read(bytes.as_slice())
 }
@@ -33,9 +33,9 @@ fn read(bytes: &[u8]) -> Result<Page, PageFault>
     requires { length bytes.now ≡ 1024 }
     ensures found { IfOk result (λ page. IsPage page × (bytes.now ≡ spelling page)) }
     ensures only { (page : PageView) → IsPage page → bytes.now ≡ spelling page → result ≡ Ok page }
-    ensures fault { IfErr result (λ fault. first_fault bytes.now ≡ Some fault) }
+    ensures fault { IfErr result (λ fault. page_bytes_fault bytes.now ≡ Some fault) }
 {
-    match first_fault(bytes) {
+    match page_bytes_fault(bytes) {
         Some(fault) => Err(fault),
         None => Ok(page_of(bytes)),
     }
@@ -44,10 +44,10 @@ fn read(bytes: &[u8]) -> Result<Page, PageFault>
 // The page that bytes without a fault are read as.
 fn page_of(bytes: &[u8]) -> Page
     requires long { length bytes.now ≡ 1024 }
-    requires sound { first_fault bytes.now ≡ None }
+    requires sound { page_bytes_fault bytes.now ≡ None }
     ensures { result ≡ page_of bytes.now }
 {
-    let kind = kind_of(bytes[0]);
+    let kind = kind_numbered(bytes[0]);
     let (low, high) = (u64_at(bytes, 16), u64_at(bytes, 24));
     let body = body_of(kind, u16_at(bytes, 2), low, high, bytes.split_at(32).1);
     Page::new(u64_at(bytes, 8), body)
@@ -56,8 +56,8 @@ fn page_of(bytes: &[u8]) -> Page
 // The body of a page of this kind, with this count and these fences.
 fn body_of(kind: Kind, count: u16, low: u64, high: u64, body: &[u8]) -> Body
     requires long { length body.now ≡ 992 }
-    requires count { IsTrue (is_count kind count body.now) }
-    ensures { (llsn : ℕ) → shown llsn result ≡ read_as kind count llsn low high body.now }
+    requires count { IsTrue (is_page_count kind count body.now) }
+    ensures { (llsn : ℕ) → page_shown llsn result ≡ read_as kind count llsn low high body.now }
 {
     let count = usize::from(count);
     match kind {
@@ -91,10 +91,10 @@ fn bits_of(body: &[u8]) -> [u8; 512]
 pub(crate) const FORMAT: u8 = 1;
 
 /// The first fault of the bytes of a page.
-#[tactic(auto, unfolding(crate::specs::Grammar::first_fault))]
-fn first_fault(bytes: &[u8]) -> Option<PageFault>
+#[tactic(auto, unfolding(crate::specs::Grammar::page_bytes_fault))]
+fn page_bytes_fault(bytes: &[u8]) -> Option<PageFault>
     requires { length bytes.now ≡ 1024 }
-    ensures { result ≡ first_fault bytes.now }
+    ensures { result ≡ page_bytes_fault bytes.now }
 {
     match header_fault(bytes) {
         Some(fault) => Some(fault),
@@ -113,8 +113,8 @@ fn header_fault(bytes: &[u8]) -> Option<PageFault>
     if bytes[1] != FORMAT {
         return fault(Fault::Kind, 1);
     }
-    let kind = kind_of(bytes[0]);
-    if !is_count(kind, u16_at(bytes, 2), bytes.split_at(32).1) {
+    let kind = kind_numbered(bytes[0]);
+    if !is_page_count(kind, u16_at(bytes, 2), bytes.split_at(32).1) {
         return fault(Fault::Count, 2);
     }
     if let Some(fault) = padding_fault(bytes.split_at(4).1.split_at(4).0, 4) {
@@ -136,8 +136,8 @@ fn fault(fault: Fault, offset: u32) -> Option<PageFault>
     Some(PageFault { fault, offset })
 }
 
-fn kind_of(byte: u8) -> Kind
-    ensures { result ≡ kind_of byte }
+fn kind_numbered(byte: u8) -> Kind
+    ensures { result ≡ kind_numbered byte }
 {
     match byte {
         0 => Kind::Blank,
@@ -148,9 +148,9 @@ fn kind_of(byte: u8) -> Kind
     }
 }
 
-fn is_count(kind: Kind, count: u16, body: &[u8]) -> bool
+fn is_page_count(kind: Kind, count: u16, body: &[u8]) -> bool
     requires { 512 ≤ length body.now }
-    ensures { result ≡ is_count kind count body.now }
+    ensures { result ≡ is_page_count kind count body.now }
 {
     match kind {
         Kind::Blank => count == 0,
@@ -205,10 +205,10 @@ fn padding_fault(bytes: &[u8], place: u32) -> Option<PageFault>
 #[tactic(auto, unfolding(crate::specs::Grammar::body_fault))]
 fn body_fault(bytes: &[u8]) -> Option<PageFault>
     requires long { length bytes.now ≡ 1024 }
-    requires count { IsTrue (is_count (kind_of (slice_index bytes.now 0)) (number_at 2 2 bytes.now) (drop 32 bytes.now)) }
+    requires count { IsTrue (is_page_count (kind_numbered (slice_index bytes.now 0)) (number_at 2 2 bytes.now) (drop 32 bytes.now)) }
     ensures { result ≡ body_fault bytes.now }
 {
-    let kind = kind_of(bytes[0]);
+    let kind = kind_numbered(bytes[0]);
     let count = u16_at(bytes, 2);
     let body = bytes.split_at(32).1;
     if let Some(fault) = cells_fault(kind, count, u64_at(bytes, 16), u64_at(bytes, 24), body) {
@@ -220,7 +220,7 @@ fn body_fault(bytes: &[u8]) -> Option<PageFault>
 
 fn cells_fault(kind: Kind, count: u16, low: u64, high: u64, body: &[u8]) -> Option<PageFault>
     requires long { length body.now ≡ 992 }
-    requires count { IsTrue (is_count kind count body.now) }
+    requires count { IsTrue (is_page_count kind count body.now) }
     ensures { result ≡ cells_fault kind count low high body.now }
 {
     let count = usize::from(count);

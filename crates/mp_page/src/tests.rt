@@ -204,6 +204,8 @@ impl Pager for SamePage {
 
     ghost follows = { λ p q. p ≡ q };
 
+    ghost withholds = { λ p n. ⊥ };
+
     ghost follows_self = { λ p. refl };
 
     ghost follows_on = { λ p q r h k. h ∙ k };

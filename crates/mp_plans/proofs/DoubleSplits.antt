@@ -2,7 +2,7 @@
 -- another order, which is the same page by page.
 use Rattle.mp_plans.specs.Fitting.{IsLeafOf}
 use Rattle.mp_cells.specs.Mtrs.{IsChange}
-use Rattle.mp_plans.specs.Writes.{IsStep}
+use Rattle.mp_cells.specs.Writes.{IsStep}
 use Rattle.std.specs.List.{AllByRecursion}
 use Rattle.std.proofs.Common.{◌≡◌, ◌≢◌, ℕ, suc, ◌+◌, ◌<◌, ◌≤◌, ◌==◌, List, [], ◌∷◌, ◌++◌, length, take, drop, Some, sym, ap, subst, ◌∙◌, inr, arith}
 use Rattle.mp_cells.specs.declared.changes.Change.{Change}
@@ -12,11 +12,11 @@ use Rattle.mp_cells.specs.declared.children.Child.{Child}
 use Rattle.mp_cells.specs.PageView.{PageView}
 use Rattle.mp_cells.specs.Changes.{applied}
 use Rattle.mp_cells.specs.Trees.{PageMap, top, uses, one_if}
-use Rattle.mp_plans.specs.Plans.{Plan, after_plan}
+use Rattle.mp_cells.specs.Plans.{Plan, after_plan}
 use Rattle.mp_plans.specs.Growth.{leaf_separator, inner_separator, leaf_parts, inner_parts, root_inner_parts, two_children, side, put_child, has_place}
-use Rattle.mp_plans.proofs.Uses.{one_if-same}
-use Rattle.mp_plans.proofs.Heights.{numbers}
-use Rattle.mp_plans.proofs.Spare.{TreeWith, kind_apart}
+use Rattle.mp_cells.proofs.Uses.{one_if-same}
+use Rattle.mp_cells.proofs.Heights.{numbers}
+use Rattle.mp_cells.proofs.Spare.{TreeWith, kind_apart}
 use Rattle.mp_plans.proofs.Reshaping.{Reshapes, reshapes_then, after_plan-append}
 use Rattle.mp_plans.proofs.SplitPieces.{split_piece}
 use Rattle.mp_plans.proofs.Parts.{leaf_halves, inner_halves, inner_cut, inner_left, inner_right, root_piece, root_fences}

@@ -1,22 +1,20 @@
 -- The end of a write: the former version becomes an undo record, and the row is put. And a row that is put back.
 use Rattle.mp_cells.proofs.KeyEdits.{All-append}
-use Rattle.std.proofs.Common.{◌≡◌, ℕ, ◌+◌, ◌<◌, ◌≤◌, ◌==◌, ◌||◌, nat_lt, Bool, true, false, cond, List, [], ◌∷◌, ◌++◌, length, Some, None, refl, sym, ap, subst, ◌∙◌, arith}
-use mathlib.Core.Bool.{false≢true}
+use Rattle.std.proofs.Common.{◌≡◌, ℕ, ◌<◌, ◌≤◌, ◌||◌, nat_lt, Bool, true, cond, [], ◌∷◌, ◌++◌, length, Some, None, refl, sym, ap, subst, ◌∙◌}
 use Rattle.std.specs.Prelude.{is_some}
-use Rattle.std.proofs.lemmas.Bool.{and_from, eqb-true, le-leb, lt-ltb}
+use Rattle.std.proofs.lemmas.Bool.{and_from, le-leb, lt-ltb}
 use Rattle.mp_cells.specs.declared.changes.Change.TheVariants.{RestoreRow, PutRow, PutUndo}
 use Rattle.mp_cells.specs.declared.kinds.Kind.TheVariants.{Leaf, Undo}
 use Rattle.mp_cells.specs.declared.rows.Row.{Row}
 use Rattle.mp_cells.specs.PageView.{PageView}
-use Rattle.mp_cells.specs.Keys.{holds, with_cell}
+use Rattle.mp_cells.specs.Keys.{with_cell}
 use Rattle.mp_cells.specs.Rows.{IsRow}
 use Rattle.mp_cells.specs.Changes.{applied, takes_row, is_within, holds_row}
 use Rattle.mp_cells.specs.Trees.{PageMap, IsTree, tree_rows, row_at}
-use Rattle.mp_cells.proofs.KeyOrder.{Rises}
-use Rattle.mp_cells.proofs.AppliedPages.{applied-page}
-use Rattle.mp_plans.specs.Plans.{Plan, with_page, after_plan}
-use Rattle.mp_plans.specs.Writes.{undo_at, version_of, Writes, Restores, WellRestore, IsStep}
-use Rattle.mp_plans.proofs.Spare.{with_none, of_none, leaf_facts, kind_apart}
+use Rattle.mp_cells.proofs.AppliedPages.{applied-page, held_within}
+use Rattle.mp_cells.specs.Plans.{Plan, with_page, after_plan}
+use Rattle.mp_cells.specs.Writes.{undo_at, version_of, WritesRow, Restores, WellRestore, IsStep}
+use Rattle.mp_cells.proofs.Spare.{with_none, of_none, leaf_facts, kind_apart}
 use Rattle.mp_plans.proofs.Reshaping.{after_plan-append, Meets-append, can_apply, changed_is, Reshapes}
 use Rattle.mp_plans.proofs.Steps.{kind_test, record_step, leaf_put}
 
@@ -35,7 +33,7 @@ pub record Ready (mid : PageMap) (u m : ℕ) (former row : Row) : Type 0 where
   pub writer : is_some row.writer ≡ true
   pub link : row.link ≡ Some (record { page = u; index = length (mid u).rows })
 
-pub finished : (plan : Plan) (pages : PageMap) (height height' u m : ℕ) (former row : Row) → Reshapes [] [] plan pages height height' → former ≡ version_of row.key (row_at row.key (tree_rows pages height)) → Ready (after_plan plan pages) u m former row → Writes (plan ++ (u, PutUndo former) ∷ (m, PutRow row) ∷ []) row pages height
+pub finished : (plan : Plan) (pages : PageMap) (height height' u m : ℕ) (former row : Row) → Reshapes [] [] plan pages height height' → former ≡ version_of row.key (row_at row.key (tree_rows pages height)) → Ready (after_plan plan pages) u m former row → WritesRow (plan ++ (u, PutUndo former) ∷ (m, PutRow row) ∷ []) row pages height
 finished plan pages height height' u m former row shape is_former r =
     let mid = after_plan plan pages in
     let first = record_step [] mid height' u former shape.tree r.undo_range r.undo_kind r.undo_room r.former_row in
@@ -71,14 +69,6 @@ finished plan pages height height' u m former row shape is_former r =
     }
 
 -- ---- a row is put back
-
-held_within : {T : Type 0} (key : T → ℕ) (low high k : ℕ) (cells : List T) → Rises key low high cells → holds key k cells ≡ true → (low ≤ k) × (k < high)
-held_within key low high k [] r h = absurd (false≢true h)
-held_within {T} key low high k (cell ∷ cells) r h = by_test (key cell == k) refl h (held_within key (key cell + 1) high k cells r.2)
-  where
-    by_test : (b : Bool) → (key cell == k) ≡ b → (b || holds key k cells) ≡ true → (holds key k cells ≡ true → (key cell + 1 ≤ k) × (k < high)) → (low ≤ k) × (k < high)
-    by_test true e held later = let same : key cell ≡ k = eqb-true (key cell) k e in (omega (arith, r.0), omega (arith, r.1))
-    by_test false e held later = let rest = later held in (omega (arith, r.0, rest.0), rest.1)
 
 restored : (pages : PageMap) (height m : ℕ) (row : Row) → IsTree pages height → m < 4096 → (pages m).kind ≡ Leaf → holds_row row.key (pages m) ≡ true → IsRow row → Restores ((m, RestoreRow row) ∷ []) row pages height
 restored pages height m row tree lt kind held is_row =

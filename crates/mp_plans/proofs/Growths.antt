@@ -16,12 +16,12 @@ use Rattle.mp_cells.specs.Changes.{applied, holds_row}
 use Rattle.mp_cells.specs.Trees.{PageMap, top, low_of, uses, one_if}
 use Rattle.mp_cells.proofs.KeyOrder.{Rises}
 use Rattle.mp_cells.proofs.ChildSpelling.{child_page_range}
-use Rattle.mp_plans.specs.Plans.{Plan, after_plan}
+use Rattle.mp_cells.specs.Plans.{Plan, after_plan}
 use Rattle.mp_plans.specs.Growth.{first_key, leaf_separator, inner_separator, leaf_parts, root_leaf_parts, side, put_child, has_place}
-use Rattle.mp_plans.proofs.Uses.{one_if-same, one_if-other}
-use Rattle.mp_plans.proofs.Heights.{numbers}
-use Rattle.mp_plans.proofs.Spare.{TreeWith, content_of, inner_facts, kind_apart}
-use Rattle.mp_plans.proofs.Places.{in_level}
+use Rattle.mp_cells.proofs.Uses.{one_if-same, one_if-other}
+use Rattle.mp_cells.proofs.Heights.{numbers}
+use Rattle.mp_cells.proofs.Spare.{TreeWith, content_of, inner_facts, kind_apart}
+use Rattle.mp_cells.proofs.Places.{in_level}
 use Rattle.mp_plans.proofs.Reshaping.{Reshapes, reshapes_none}
 use Rattle.mp_plans.proofs.SplitTrees.{child_fences}
 use Rattle.mp_plans.proofs.Halves.{halves}

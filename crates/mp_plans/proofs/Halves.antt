@@ -7,8 +7,8 @@ use Rattle.mp_cells.specs.Trees.{low_of, uses}
 use Rattle.mp_cells.proofs.KeyOrder.{Rises}
 use Rattle.mp_cells.proofs.KeyEdits.{below_none, with_cell-below, with_cell-above}
 use Rattle.mp_plans.specs.Growth.{first_key}
-use Rattle.mp_plans.proofs.Uses.{uses-head}
-use Rattle.mp_plans.proofs.Heights.{numbers}
+use Rattle.mp_cells.proofs.Uses.{uses-head}
+use Rattle.mp_cells.proofs.Heights.{numbers}
 
 pub record Halves {T : Type 0} (key : T → ℕ) (low high n : ℕ) (cells : List T) : Type 0 where
   pub from : low ≤ first_key key (drop n cells)

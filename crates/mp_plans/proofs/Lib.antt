@@ -1,11 +1,3 @@
-pub mod ByPage
-pub mod Stretches
-pub mod Uses
-pub mod Heights
-pub mod Spare
-pub mod Bits
-pub mod Shapes
-pub mod Places
 pub mod Reshaping
 pub mod Steps
 pub mod Finish

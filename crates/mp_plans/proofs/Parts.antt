@@ -17,10 +17,10 @@ use Rattle.mp_cells.specs.Changes.{applied, can_be_inner, is_tree_page}
 use Rattle.mp_cells.specs.Trees.{PageMap, top, tree_pages, uses, one_if}
 use Rattle.mp_cells.proofs.KeyOrder.{Rises, test-from_Rises}
 use Rattle.mp_cells.proofs.AppliedPages.{applied-page}
-use Rattle.mp_plans.specs.Plans.{Plan, after_plan}
+use Rattle.mp_cells.specs.Plans.{Plan, after_plan}
 use Rattle.mp_plans.specs.Growth.{first_key, leaf_separator, inner_separator, two_children}
-use Rattle.mp_plans.proofs.Uses.{one_if-same}
-use Rattle.mp_plans.proofs.Spare.{TreeWith, content_of, leaf_facts, inner_facts, kind_apart, spare_apart}
+use Rattle.mp_cells.proofs.Uses.{one_if-same}
+use Rattle.mp_cells.proofs.Spare.{TreeWith, content_of, leaf_facts, inner_facts, kind_apart, spare_apart}
 use Rattle.mp_plans.proofs.Reshaping.{Reshapes}
 use Rattle.mp_plans.proofs.Steps.{kind_test}
 use Rattle.mp_plans.proofs.Halves.{halves, halves_above}

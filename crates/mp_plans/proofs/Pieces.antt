@@ -11,9 +11,9 @@ use Rattle.mp_cells.specs.Keys.{holds, with_cell}
 use Rattle.mp_cells.specs.Changes.{applied, takes_child}
 use Rattle.mp_cells.specs.Trees.{PageMap, low_of, uses}
 use Rattle.mp_cells.proofs.KeyOrder.{Rises, absent_above}
-use Rattle.mp_plans.specs.Plans.{Plan, after_plan, Meets, of_page, after_changes, MeetsAll}
-use Rattle.mp_plans.proofs.ByPage.{after_plan-page, Meets-from_pages}
-use Rattle.mp_plans.proofs.Heights.{numbers}
+use Rattle.mp_cells.specs.Plans.{Plan, after_plan, Meets, of_page, after_changes, MeetsAll}
+use Rattle.mp_cells.proofs.ByPage.{after_plan-page, Meets-from_pages}
+use Rattle.mp_cells.proofs.Heights.{numbers}
 use Rattle.mp_plans.proofs.Reshaping.{can_apply, changed_is}
 use Rattle.mp_plans.proofs.Steps.{kind_test}
 use Rattle.mp_plans.proofs.Halves.{split_at, put_between}

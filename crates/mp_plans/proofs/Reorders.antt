@@ -4,10 +4,10 @@ use Rattle.std.specs.List.{AllByRecursion}
 use Rattle.std.proofs.lemmas.Bool.{cases_eq}
 use Rattle.mp_cells.specs.declared.changes.Change.{Change}
 use Rattle.mp_cells.specs.Trees.{PageMap, tree_rows}
-use Rattle.mp_plans.specs.Plans.{Plan, after_plan, Meets, of_page, after_changes, MeetsAll}
-use Rattle.mp_plans.specs.Writes.{undo_at, IsStep}
-use Rattle.mp_plans.proofs.ByPage.{after_plan-page, Meets-pages, Meets-from_pages}
-use Rattle.mp_plans.proofs.Spare.{TreeWith}
+use Rattle.mp_cells.specs.Plans.{Plan, after_plan, Meets, of_page, after_changes, MeetsAll}
+use Rattle.mp_cells.specs.Writes.{undo_at, IsStep}
+use Rattle.mp_cells.proofs.ByPage.{after_plan-page, Meets-pages, Meets-from_pages}
+use Rattle.mp_cells.proofs.Spare.{TreeWith}
 use Rattle.mp_plans.proofs.Reshaping.{Reshapes}
 use Rattle.mp_plans.proofs.Pieces.{of_page-here, of_page-other}
 

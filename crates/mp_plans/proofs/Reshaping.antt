@@ -9,10 +9,10 @@ use Rattle.mp_cells.specs.declared.rows.Link.{Link}
 use Rattle.mp_cells.specs.PageView.{PageView, is_of}
 use Rattle.mp_cells.specs.Changes.{applied}
 use Rattle.mp_cells.specs.Trees.{PageMap, tree_rows}
-use Rattle.mp_plans.specs.Plans.{Plan, CanApply, or_else, changed, with_page, after_change, after_plan, Meets}
-use Rattle.mp_plans.specs.Writes.{record_in, undo_at, IsStep}
-use Rattle.mp_plans.proofs.ByPage.{with_page-here, with_page-other}
-use Rattle.mp_plans.proofs.Spare.{TreeWith}
+use Rattle.mp_cells.specs.Plans.{Plan, CanApply, page_or, changed_page, with_page, after_change, after_plan, Meets}
+use Rattle.mp_cells.specs.Writes.{record_in, undo_at, IsStep}
+use Rattle.mp_cells.proofs.ByPage.{with_page-here, with_page-other}
+use Rattle.mp_cells.proofs.Spare.{TreeWith}
 
 pub after_plan-append : (p q : Plan) (pages : PageMap) → after_plan (p ++ q) pages ≡ after_plan q (after_plan p pages)
 after_plan-append [] q pages = refl
@@ -26,8 +26,8 @@ Meets-append (step ∷ p) q pages m n = (m.0, Meets-append p q (after_change ste
 pub can_apply : (change : Change) (page new : PageView) → applied change page ≡ Some new → CanApply change page
 can_apply change page new e = subst IsSome (sym e) refl
 
-pub changed_is : (change : Change) (page new : PageView) → applied change page ≡ Some new → changed change page ≡ new
-changed_is change page new e = ap (or_else page) e
+pub changed_is : (change : Change) (page new : PageView) → applied change page ≡ Some new → changed_page change page ≡ new
+changed_is change page new e = ap (page_or page) e
 
 -- what holds of the new page and of the others holds of all
 pub at_page : (pages : PageMap) (m : ℕ) (page : PageView) (P : ℕ → PageView → Type 0) → P m page → ((n : ℕ) → n ≢ m → P n (pages n)) → (n : ℕ) → P n (with_page pages m page n)

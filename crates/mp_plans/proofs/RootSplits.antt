@@ -8,9 +8,9 @@ use Rattle.mp_cells.specs.declared.kinds.Kind.TheVariants.{Blank, Meta, Leaf, In
 use Rattle.mp_cells.specs.declared.children.Child.{Child}
 use Rattle.mp_cells.specs.PageView.{PageView, IsPage, is_of, bit_of}
 use Rattle.mp_cells.specs.Trees.{PageMap, top, root, Fits, below, Levels, leaves, pages_under, tree_pages, one_if, uses, rows_under}
-use Rattle.mp_plans.specs.Writes.{record_in}
-use Rattle.mp_plans.proofs.Uses.{one_if-same}
-use Rattle.mp_plans.proofs.Spare.{TreeWith, kind_apart, spare_apart}
+use Rattle.mp_cells.specs.Writes.{record_in}
+use Rattle.mp_cells.proofs.Uses.{one_if-same}
+use Rattle.mp_cells.proofs.Spare.{TreeWith, kind_apart, spare_apart}
 use Rattle.mp_plans.proofs.Reshaping.{no_record}
 use Rattle.mp_plans.proofs.Steps.{kind_other}
 use Rattle.mp_plans.proofs.SplitLevels.{levels_on}

@@ -9,9 +9,9 @@ use Rattle.mp_cells.specs.declared.kinds.Kind.TheVariants.{Leaf, Inner}
 use Rattle.mp_cells.specs.declared.children.Child.{Child}
 use Rattle.mp_cells.specs.PageView.{PageView}
 use Rattle.mp_cells.specs.Trees.{PageMap, top, Fits, below, Levels, leaves, pages_under, one_if, uses, rows_under}
-use Rattle.mp_plans.proofs.Uses.{uses-append, uses-head, one_if-same, one_if-other}
-use Rattle.mp_plans.proofs.Heights.{numbers, level_uses}
-use Rattle.mp_plans.proofs.Places.{not_in_level, numbers-append}
+use Rattle.mp_cells.proofs.Uses.{uses-append, uses-head, one_if-same, one_if-other}
+use Rattle.mp_cells.proofs.Heights.{numbers, level_uses}
+use Rattle.mp_cells.proofs.Places.{not_in_level, numbers-append}
 use Rattle.mp_plans.proofs.Halves.{split_at, split_at-none, split_at-here, split_at-other, split_at-append, low_of-split}
 
 -- ---- where no page changed

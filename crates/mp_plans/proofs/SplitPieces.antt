@@ -16,12 +16,12 @@ use Rattle.mp_cells.specs.Trees.{PageMap, top, root, low_of, below, Levels, page
 use Rattle.mp_cells.proofs.KeyEdits.{length-with_cell}
 use Rattle.mp_cells.proofs.AppliedPages.{applied-page}
 use Rattle.mp_cells.proofs.ChildSpelling.{child_page_range}
-use Rattle.mp_plans.specs.Plans.{Plan, after_plan}
+use Rattle.mp_cells.specs.Plans.{Plan, after_plan}
 use Rattle.mp_plans.specs.Growth.{put_child}
-use Rattle.mp_plans.proofs.Uses.{uses-append, one_if-same, one_if-other}
-use Rattle.mp_plans.proofs.Heights.{numbers, level_uses}
-use Rattle.mp_plans.proofs.Spare.{TreeWith, content_of, leaf_facts, inner_facts, kind_apart, inner_once, spare_apart}
-use Rattle.mp_plans.proofs.Places.{numbers-append, not_in_level, in_level, parts_uses}
+use Rattle.mp_cells.proofs.Uses.{uses-append, one_if-same, one_if-other}
+use Rattle.mp_cells.proofs.Heights.{numbers, level_uses}
+use Rattle.mp_cells.proofs.Spare.{TreeWith, content_of, leaf_facts, inner_facts, kind_apart, inner_once, spare_apart}
+use Rattle.mp_cells.proofs.Places.{numbers-append, not_in_level, in_level, parts_uses}
 use Rattle.mp_plans.proofs.Reshaping.{Reshapes}
 use Rattle.mp_plans.proofs.SplitTrees.{IsNode, node_once, child_fences, IsFilled, SplitFits, split_tree}
 use Rattle.mp_plans.proofs.Pieces.{three, child_fits}

@@ -11,11 +11,12 @@ use Rattle.mp_cells.specs.declared.children.Child.{Child}
 use Rattle.mp_cells.specs.PageView.{PageView, IsPage, is_of, bit_of}
 use Rattle.mp_cells.specs.Trees.{PageMap, top, root, low_of, Fits, below, Levels, pages_under, tree_pages, one_if, uses, tree_rows}
 use Rattle.mp_cells.proofs.TreeSearch.{InRange, below_in_range, low_of-below, fits_parts}
-use Rattle.mp_plans.specs.Writes.{record_in, undo_at}
-use Rattle.mp_plans.proofs.Uses.{uses-append, one_if-same}
-use Rattle.mp_plans.proofs.Heights.{numbers, root_range}
-use Rattle.mp_plans.proofs.Spare.{TreeWith, kind_apart, in_tree, inner_once, spare_apart}
-use Rattle.mp_plans.proofs.Places.{in_level, in_parts, not_in_level}
+use Rattle.mp_cells.specs.Writes.{record_in, undo_at}
+use Rattle.mp_cells.proofs.Uses.{uses-append, one_if-same}
+use Rattle.mp_cells.proofs.Heights.{numbers}
+use Rattle.mp_cells.proofs.TreeSearch.{root_range}
+use Rattle.mp_cells.proofs.Spare.{TreeWith, kind_apart, in_tree, inner_once, spare_apart}
+use Rattle.mp_cells.proofs.Places.{in_level, in_parts, not_in_level}
 use Rattle.mp_plans.proofs.Reshaping.{no_record}
 use Rattle.mp_plans.proofs.Steps.{kind_other}
 use Rattle.mp_plans.proofs.SplitLevels.{Splits, split_under}

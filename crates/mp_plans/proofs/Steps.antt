@@ -21,16 +21,16 @@ use Rattle.mp_cells.specs.Changes.{applied, takes_page}
 use Rattle.mp_cells.specs.Trees.{PageMap, top, low_of, one_if, uses, rows_under, tree_rows}
 use Rattle.mp_cells.proofs.KeyEdits.{length-with_cell}
 use Rattle.mp_cells.proofs.AppliedPages.{applied-page}
-use Rattle.mp_plans.specs.Plans.{with_page, after_plan, Meets}
-use Rattle.mp_plans.specs.Writes.{record_in, undo_at, is_link}
-use Rattle.mp_plans.proofs.ByPage.{with_page-here, with_page-other}
-use Rattle.mp_plans.proofs.Uses.{one_if-same, one_if-other, uses-head}
-use Rattle.mp_plans.proofs.Heights.{numbers}
-use Rattle.mp_plans.proofs.Bits.{with_bit-same, with_bit-other}
-use Rattle.mp_plans.proofs.Spare.{TreeWith, content_of, leaf_facts, not_undo, kind_apart}
-use Rattle.mp_plans.proofs.Stretches.{with_cell-middle}
-use Rattle.mp_plans.proofs.Places.{leaf_place}
-use Rattle.mp_plans.proofs.Shapes.{SameNode, Keeps, kept_tree, kept_leaves, kept_rows}
+use Rattle.mp_cells.specs.Plans.{with_page, after_plan, Meets}
+use Rattle.mp_cells.specs.Writes.{record_in, undo_at, same_link}
+use Rattle.mp_cells.proofs.ByPage.{with_page-here, with_page-other}
+use Rattle.mp_cells.proofs.Uses.{one_if-same, one_if-other, uses-head}
+use Rattle.mp_cells.proofs.Heights.{numbers}
+use Rattle.mp_cells.proofs.Bits.{with_bit-same, with_bit-other}
+use Rattle.mp_cells.proofs.Spare.{TreeWith, content_of, leaf_facts, not_undo, kind_apart}
+use Rattle.mp_cells.proofs.Stretches.{with_cell-middle}
+use Rattle.mp_cells.proofs.Places.{leaf_place}
+use Rattle.mp_cells.proofs.Shapes.{SameNode, Keeps, kept_tree, kept_leaves, kept_rows}
 use Rattle.mp_plans.proofs.Reshaping.{can_apply, changed_is, at_page, no_record, undo_kept, Reshapes}
 
 -- a test of a kind
@@ -153,7 +153,7 @@ pub record AddsRecord (spare : List ℕ) (pages : PageMap) (height u : ℕ) (row
   pub tree : TreeWith spare (after_plan ((u, PutUndo row) ∷ []) pages) height
   pub rows : tree_rows (after_plan ((u, PutUndo row) ∷ []) pages) height ≡ tree_rows pages height
   pub fresh : undo_at pages (record { page = u; index = length (pages u).rows }) ≡ None
-  pub added : (link : Link) → undo_at (after_plan ((u, PutUndo row) ∷ []) pages) link ≡ cond (is_link link (record { page = u; index = length (pages u).rows })) (Some row) (undo_at pages link)
+  pub added : (link : Link) → undo_at (after_plan ((u, PutUndo row) ∷ []) pages) link ≡ cond (same_link link (record { page = u; index = length (pages u).rows })) (Some row) (undo_at pages link)
   pub others : (n : ℕ) → n ≢ u → after_plan ((u, PutUndo row) ∷ []) pages n ≡ pages n
 
 slice_get_push : {T : Type 0} (xs : List T) (x : T) (i : ℕ) → slice_get (xs ++ x ∷ []) i ≡ cond (i == length xs) (Some x) (slice_get xs i)

@@ -8,12 +8,12 @@ use Rattle.mp_cells.specs.declared.kinds.Kind.TheVariants.{Meta}
 use Rattle.mp_cells.specs.PageView.{PageView, bit_of, with_bit}
 use Rattle.mp_cells.specs.Changes.{applied, takes_page}
 use Rattle.mp_cells.specs.Trees.{PageMap, uses}
-use Rattle.mp_plans.specs.Plans.{Plan, after_plan, with_page}
+use Rattle.mp_cells.specs.Plans.{Plan, after_plan, with_page}
 use Rattle.mp_plans.specs.Growth.{takes}
-use Rattle.mp_plans.proofs.ByPage.{with_page-here, with_page-other}
-use Rattle.mp_plans.proofs.Uses.{one_if-same, uses-head}
-use Rattle.mp_plans.proofs.Bits.{with_bit-other}
-use Rattle.mp_plans.proofs.Spare.{TreeWith, content_of}
+use Rattle.mp_cells.proofs.ByPage.{with_page-here, with_page-other}
+use Rattle.mp_cells.proofs.Uses.{one_if-same, uses-head}
+use Rattle.mp_cells.proofs.Bits.{with_bit-other}
+use Rattle.mp_cells.proofs.Spare.{TreeWith, content_of}
 use Rattle.mp_plans.proofs.Reshaping.{changed_is, Reshapes, reshapes_none, reshapes_then}
 use Rattle.mp_plans.proofs.Steps.{kind_test, take_step}
 

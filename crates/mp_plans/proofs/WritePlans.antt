@@ -14,14 +14,14 @@ use Rattle.mp_cells.specs.Rows.{IsRow}
 use Rattle.mp_cells.specs.PageView.{PageView, undo_page}
 use Rattle.mp_cells.specs.Changes.{applied}
 use Rattle.mp_cells.specs.Trees.{PageMap, IsTree, tree_rows, row_at, uses, one_if}
-use Rattle.mp_plans.specs.Plans.{Plan, after_plan, with_page, Agrees}
+use Rattle.mp_cells.specs.Plans.{Plan, after_plan, with_page, AgreesOn}
 use Rattle.mp_plans.specs.Growth.{Growth, stays, new_root, leaf, inner, higher, pages_needed, growth_changes, leaf_after, new_pages, takes, write_plan, has_place, leaf_parts, inner_parts, root_inner_parts, leaf_separator, inner_separator, side, put_child}
-use Rattle.mp_plans.specs.Writes.{version_of, row_put, rows_put, row_restored, rows_restored, page_taken, pages_taken, Writes, WellPut}
-use Rattle.mp_plans.proofs.ByPage.{with_page-here, with_page-other}
-use Rattle.mp_plans.proofs.Uses.{one_if-same, AllBelow}
-use Rattle.mp_plans.proofs.Heights.{numbers}
-use Rattle.mp_plans.proofs.Spare.{TreeWith, with_none, content_of, kind_apart}
-use Rattle.mp_plans.proofs.Places.{row_in_leaf}
+use Rattle.mp_cells.specs.Writes.{version_of, row_put, rows_put, row_kept, rows_kept, row_restored, rows_restored, page_taken, pages_taken, WritesRow, WellPut}
+use Rattle.mp_cells.proofs.ByPage.{with_page-here, with_page-other}
+use Rattle.mp_cells.proofs.Uses.{one_if-same, AllBelow}
+use Rattle.mp_cells.proofs.Heights.{numbers}
+use Rattle.mp_cells.proofs.Spare.{TreeWith, with_none, content_of, kind_apart}
+use Rattle.mp_cells.proofs.Places.{row_in_leaf}
 use Rattle.mp_plans.proofs.Reshaping.{changed_is, Reshapes, reshapes_none, reshapes_then, after_plan-append}
 use Rattle.mp_plans.proofs.Steps.{kind_test, undo_step}
 use Rattle.mp_plans.proofs.SplitTrees.{IsNode}
@@ -182,7 +182,7 @@ former_row key (row ∷ rows) lt h = by_test (row.key == key) (former_row key ro
     by_test true rest = h.0
     by_test false rest = rest
 
-pub written : (pages : PageMap) (height : ℕ) (growth : Growth) (m : ℕ) (fresh : Bool) (u a b c : ℕ) (row : Row) → IsTree pages height → WriteFits pages growth m fresh u a b c row → Writes (write_plan growth m fresh u pages a b c row) row pages height
+pub written : (pages : PageMap) (height : ℕ) (growth : Growth) (m : ℕ) (fresh : Bool) (u a b c : ℕ) (row : Row) → IsTree pages height → WriteFits pages growth m fresh u a b c row → WritesRow (write_plan growth m fresh u pages a b c row) row pages height
 written pages height growth m fresh u a b c row tree w =
     let spare = take (pages_needed growth) (a ∷ b ∷ c ∷ []) in
     let start : Plan = takes (new_pages fresh u growth a b c) ++ cond fresh ((u, MakeUndo) ∷ []) [] in
@@ -221,15 +221,15 @@ written pages height growth m fresh u a b c row tree w =
 
 -- ---- over every tree that has the same of the pages that it changes
 
-agrees_parts : (p q : Plan) (given pages : PageMap) → Agrees (p ++ q) given pages → Agrees p given pages × Agrees q given pages
+agrees_parts : (p q : Plan) (given pages : PageMap) → AgreesOn (p ++ q) given pages → AgreesOn p given pages × AgreesOn q given pages
 agrees_parts [] q given pages h = (tt, h)
 agrees_parts (step ∷ p) q given pages h = let rest = agrees_parts p q given pages h.1 in ((h.0, rest.0), rest.1)
 
-clear_same : (numbers : List ℕ) (given pages : PageMap) → Agrees (takes numbers) given pages → AllByRecursion (IsClear (given 0)) numbers → AllByRecursion (IsClear (pages 0)) numbers
+clear_same : (numbers : List ℕ) (given pages : PageMap) → AgreesOn (takes numbers) given pages → AllByRecursion (IsClear (given 0)) numbers → AllByRecursion (IsClear (pages 0)) numbers
 clear_same [] given pages a h = tt
 clear_same (n ∷ numbers) given pages a h = subst (λ (q : PageView). AllByRecursion (IsClear q) (n ∷ numbers)) (sym a.0) h
 
-pages_same : (growth : Growth) (given pages : PageMap) (key m a b c : ℕ) → GrowthFits given key m growth → Agrees (growth_changes growth m given a b c) given pages → pages (leaf_after growth key m given a b) ≡ given (leaf_after growth key m given a b) → SamePages pages given m growth
+pages_same : (growth : Growth) (given pages : PageMap) (key m a b c : ℕ) → GrowthFits given key m growth → AgreesOn (growth_changes growth m given a b c) given pages → pages (leaf_after growth key m given a b) ≡ given (leaf_after growth key m given a b) → SamePages pages given m growth
 pages_same stays given pages key m a b c fits h last = last
 pages_same new_root given pages key m a b c fits h last = subst (λ (k : ℕ). pages k ≡ given k) (sym fits.0) h.1.1.0
 pages_same (leaf p) given pages key m a b c fits h last = (h.1.0, h.1.1.0)
@@ -247,6 +247,13 @@ no_rows_put new_root pages m a b c = refl
 no_rows_put (leaf p) pages m a b c = refl
 no_rows_put (inner p) pages m a b c = refl
 no_rows_put higher pages m a b c = refl
+
+no_rows_kept : (growth : Growth) (pages : PageMap) (m a b c : ℕ) → rows_kept (growth_changes growth m pages a b c) ≡ []
+no_rows_kept stays pages m a b c = refl
+no_rows_kept new_root pages m a b c = refl
+no_rows_kept (leaf p) pages m a b c = refl
+no_rows_kept (inner p) pages m a b c = refl
+no_rows_kept higher pages m a b c = refl
 
 no_rows_restored : (growth : Growth) (pages : PageMap) (m a b c : ℕ) → rows_restored (growth_changes growth m pages a b c) ≡ []
 no_rows_restored stays pages m a b c = refl
@@ -266,6 +273,10 @@ takes_put : (numbers : List ℕ) → rows_put (takes numbers) ≡ []
 takes_put [] = refl
 takes_put (n ∷ numbers) = takes_put numbers
 
+takes_kept : (numbers : List ℕ) → rows_kept (takes numbers) ≡ []
+takes_kept [] = refl
+takes_kept (n ∷ numbers) = takes_kept numbers
+
 takes_restored : (numbers : List ℕ) → rows_restored (takes numbers) ≡ []
 takes_restored [] = refl
 takes_restored (n ∷ numbers) = takes_restored numbers
@@ -284,6 +295,20 @@ plan_puts growth m fresh u pages a b c row =
     flat_map-append f (takes_all ++ cond fresh ((u, MakeUndo) ∷ []) [] ++ changes) tail ∙ ap (λ (xs : List Row). xs ++ row ∷ []) none
   where
     made : (t : Bool) → rows_put (cond t ((u, MakeUndo) ∷ []) []) ++ [] ≡ []
+    made true = refl
+    made false = refl
+
+pub plan_keeps : (growth : Growth) (m : ℕ) (fresh : Bool) (u : ℕ) (pages : PageMap) (a b c : ℕ) (row : Row) → rows_kept (write_plan growth m fresh u pages a b c row) ≡ version_of row.key (row_at row.key (pages m).rows) ∷ []
+plan_keeps growth m fresh u pages a b c row =
+    let former = version_of row.key (row_at row.key (pages m).rows) in
+    let tail : Plan = (u, PutUndo former) ∷ (leaf_after growth row.key m pages a b, PutRow row) ∷ [] in
+    let takes_all = takes (new_pages fresh u growth a b c) in
+    let changes = growth_changes growth m pages a b c in
+    let f : ℕ × Change → List Row = λ step. row_kept step.1 in
+    let none : rows_kept (takes_all ++ cond fresh ((u, MakeUndo) ∷ []) [] ++ changes) ≡ [] = flat_map-append f (takes_all ++ cond fresh ((u, MakeUndo) ∷ []) []) changes ∙ rw (flat_map-append f takes_all (cond fresh ((u, MakeUndo) ∷ []) []), takes_kept (new_pages fresh u growth a b c), no_rows_kept growth pages m a b c) (made fresh) in
+    flat_map-append f (takes_all ++ cond fresh ((u, MakeUndo) ∷ []) [] ++ changes) tail ∙ ap (λ (xs : List Row). xs ++ former ∷ []) none
+  where
+    made : (t : Bool) → rows_kept (cond t ((u, MakeUndo) ∷ []) []) ++ [] ≡ []
     made true = refl
     made false = refl
 
@@ -354,8 +379,9 @@ well_written given growth m fresh u a b c row w = record {
       ap (λ (p : Plan). taken ++ cond fresh ((u, MakeUndo) ∷ []) [] ++ p ++ (u, PutUndo (version_of row.key (row_at row.key (pages m).rows))) ∷ (leaf_after growth row.key m pages a b, PutRow row) ∷ []) (changes_same growth pages given m a b c same)
       ∙ ap (λ (q : PageView). taken ++ cond fresh ((u, MakeUndo) ∷ []) [] ++ changes ++ (u, PutUndo (version_of row.key (row_at row.key q.rows))) ∷ (leaf_after growth row.key m pages a b, PutRow row) ∷ []) leaf_same
       ∙ ap (λ (n : ℕ). taken ++ cond fresh ((u, MakeUndo) ∷ []) [] ++ changes ++ (u, PutUndo (version_of row.key (row_at row.key (given m).rows))) ∷ (n, PutRow row) ∷ []) (target_same growth pages given row.key m a b leaf_same) in
-      subst (λ (p : Plan). Writes p row pages height) plan_same (written pages height growth m fresh u a b c row tree fits);
+      subst (λ (p : Plan). WritesRow p row pages height) plan_same (written pages height growth m fresh u a b c row tree fits);
   puts = plan_puts growth m fresh u given a b c row;
+  keeps = (version_of row.key (row_at row.key (given m).rows), plan_keeps growth m fresh u given a b c row);
   restores = plan_restores growth m fresh u given a b c row;
   taken = omega (arith, ap (λ (xs : List ℕ). length xs) (plan_takes growth m fresh u given a b c row), few_new fresh u growth a b c);
 }

@@ -7,8 +7,8 @@ use Rattle.mp_cells.specs.declared.children.Child.{Child}
 use Rattle.mp_cells.specs.PageView.{PageView}
 use Rattle.mp_cells.specs.Changes.{holds_row}
 use Rattle.mp_cells.specs.Trees.{PageMap, top, root, leaf_at, row_at}
-use Rattle.mp_plans.specs.Plans.{Plan}
-use Rattle.mp_plans.specs.Writes.{version_of}
+use Rattle.mp_cells.specs.Plans.{Plan}
+use Rattle.mp_cells.specs.Writes.{version_of}
 
 -- the key of the first of some cells
 abbrev pub first_key : {T : Type 0} → (T → ℕ) → List T → ℕ

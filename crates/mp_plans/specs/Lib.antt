@@ -1,4 +1,3 @@
-pub mod Plans
-pub mod Writes
 pub mod Growth
 pub mod Fitting
+pub mod FirstPut

@@ -1,18 +1,18 @@
 //! What holds of all plans.
 
 ghost use Rattle.std.specs.Prelude.{◌≡◌, ℕ, ◌<◌, ◌≤◌, ◌↔◌, Bool, [], ◌∷◌, IsTrue};
-ghost use Rattle.mp_cells.specs.declared.changes.Change.TheVariants.{RestoreRow, PutRow};
-ghost use Rattle.mp_cells.specs.declared.changes.Change.{Change};
+ghost use Rattle.mp_cells.specs.declared.changes.Change.TheVariants.{RestoreRow, PutRow, PutUndo, TakePage};
 ghost use Rattle.mp_cells.specs.declared.kinds.Kind.TheVariants.{Leaf};
 ghost use Rattle.mp_cells.specs.declared.rows.Row.{Row};
 ghost use Rattle.mp_cells.specs.Rows.{IsRow};
-ghost use Rattle.mp_cells.specs.Changes.{holds_row, HasCells};
-ghost use Rattle.mp_cells.specs.Mtrs.{IsChange};
+ghost use Rattle.mp_cells.specs.Changes.{holds_row};
 ghost use Rattle.mp_cells.specs.Trees.{PageMap, IsTree};
-ghost use Rattle.mp_plans.specs.Plans.{Plan, Meets, after_plan, of_page, after_changes, MeetsAll};
-ghost use Rattle.mp_plans.specs.Writes.{WellPut, WellRestore};
+ghost use Rattle.mp_cells.specs.Plans.{Plan, Meets, after_plan, of_page, after_changes, MeetsAll};
+ghost use Rattle.mp_cells.specs.Writes.{WellPut, WellRestore};
 ghost use Rattle.mp_plans.specs.Growth.{Growth, write_plan};
+ghost use Rattle.mp_cells.specs.SmallMaps.{fresh_map, gone_row};
 ghost use Rattle.mp_plans.specs.Fitting.{WriteFits};
+ghost use Rattle.mp_plans.specs.FirstPut.{first_row, first_put};
 
 /// What a plan leaves of a page is what that page's own changes leave of it, and a plan's changes can be applied in order
 /// exactly where each page's own can. So changes of different pages may be reordered.
@@ -38,10 +38,16 @@ pub fn law_write()
     ensures { (given : PageMap) (growth : Growth) (m : ℕ) (fresh : Bool) (u a b c : ℕ) (row : Row) → WriteFits given growth m fresh u a b c row → WellPut given row (write_plan growth m fresh u given a b c row) }
 {}
 
-/// A plan without changes puts no row, and one that puts a row twice isn't well made; a change that a record may have
-/// is one that may be applied.
+/// Over a fresh map the four changes of a first put are well made: an undo page is taken and made, the former version
+/// becomes its first record, and the row, whose link names that record, is put. The same changes with a link to the record
+/// behind, or with another former version, are not; nor is a plan without changes, one that puts a row twice, one that
+/// keeps a former version twice, or one that takes six pages.
 pub fn law_well_put_examples()
+    ensures first { WellPut fresh_map (first_row 0) (first_put (gone_row 7) (first_row 0)) }
+    ensures behind { WellPut fresh_map (first_row 1) (first_put (gone_row 7) (first_row 1)) → ⊥ }
+    ensures former { WellPut fresh_map (first_row 0) (first_put (gone_row 8) (first_row 0)) → ⊥ }
     ensures empty { (given : PageMap) (row : Row) → WellPut given row [] → ⊥ }
     ensures twice { (given : PageMap) (row : Row) (m : ℕ) → WellPut given row ((m, PutRow row) ∷ (m, PutRow row) ∷ []) → ⊥ }
-    ensures cells { (change : Change) → IsChange change → HasCells change }
+    ensures kept { (given : PageMap) (row former : Row) (u m : ℕ) → WellPut given row ((u, PutUndo former) ∷ (u, PutUndo former) ∷ (m, PutRow row) ∷ []) → ⊥ }
+    ensures taken { (given : PageMap) (row : Row) (plan : Plan) (a b c d e f : ℕ) → WellPut given row ((0, TakePage a) ∷ (0, TakePage b) ∷ (0, TakePage c) ∷ (0, TakePage d) ∷ (0, TakePage e) ∷ (0, TakePage f) ∷ plan) → ⊥ }
 {}

@@ -16,7 +16,7 @@ use Rattle.mp_cells.specs.Mtrs.{IsChange, IsPageRecord, AreRecords, IsMtr}
 use Rattle.mp_redo.specs.declared.kinds.ChangeKind.{ChangeKind}
 use Rattle.mp_redo.specs.declared.kinds.ChangeKind.TheVariants as kinds
 use Rattle.mp_redo.specs.Spelling.{kind_number, commit_number, kind_of_change, change_bytes, record_bytes, mtr_bytes, Spells}
-use Rattle.mp_redo.specs.Reading.{Read, and_then, number, id_at, change_at, kind_of, page_record_at, commit_at, most_kind, record_at, records_at, mtr_at, fault_of, first_fault}
+use Rattle.mp_redo.specs.Reading.{Read, and_then, number, id_at, change_at, kind_of, page_record_at, commit_at, most_kind, record_at, records_at, mtr_at, fault_of, mtr_fault}
 use Rattle.mp_redo.proofs.Fields.{AreBytes, IsField, InRange, both_read, both_again, number_field, id_field}
 use Rattle.mp_redo.proofs.Cells.{part_after, one_byte}
 use Rattle.mp_redo.proofs.ChangeSpelling.{IsRead, IsReadAgain, change_read, change_again, room_for}
@@ -383,10 +383,10 @@ unique a b rest ha hb h =
     (ap (λ (p : Mtr × ℕ). p.0) both, nothing_more (mtr_bytes a) (mtr_bytes b) rest h (ap (λ (p : Mtr × ℕ). p.1) both))
 
 -- ---- no fault is in an mtr's spelling alone
-pub no_fault : (mtr : Mtr) (rest : List ℕ) → IsMtr mtr → first_fault (mtr_bytes mtr ++ rest) ≡ None
+pub no_fault : (mtr : Mtr) (rest : List ℕ) → IsMtr mtr → mtr_fault (mtr_bytes mtr ++ rest) ≡ None
 no_fault mtr rest good = rw (mtr_again mtr rest good) refl
 
-pub spelled_front : (bytes : List ℕ) → AreBytes bytes → first_fault bytes ≡ None → (mtr : Mtr) × (n : ℕ) × (n ≤ length bytes) × Spells mtr (take n bytes)
+pub spelled_front : (bytes : List ℕ) → AreBytes bytes → mtr_fault bytes ≡ None → (mtr : Mtr) × (n : ℕ) × (n ≤ length bytes) × Spells mtr (take n bytes)
 spelled_front bytes fits none = by_read (mtr_at bytes) refl none
   where
     by_read : (r : Read (Mtr × ℕ)) → mtr_at bytes ≡ r → fault_of r ≡ None → (mtr : Mtr) × (n : ℕ) × (n ≤ length bytes) × Spells mtr (take n bytes)

@@ -1,5 +1,5 @@
 -- Bytes put behind bytes, and one round of a writing loop.
-use Rattle.std.proofs.Common.{◌≡◌, ℕ, ◌+◌, ◌*◌, ◌<◌, ◌≤◌, List, [], ◌∷◌, ◌++◌, length, take, drop, get_or, refl, sym, ap, subst, ◌∙◌, arith}
+use Rattle.std.proofs.Common.{◌≡◌, ℕ, suc, ◌+◌, ◌*◌, ◌<◌, ◌≤◌, true, List, [], ◌∷◌, ◌++◌, length, take, drop, get_or, refl, sym, ap, subst, ◌∙◌, arith}
 use Rattle.std.specs.List.{flat_map, AllByRecursion}
 use Rattle.std.proofs.lemmas.List.{append_assoc, append-nil, length-append, take_more, flat_map_more, take-append-drop}
 use Rattle.std.proofs.lemmas.List.Concat.{flat_map-append}
@@ -16,6 +16,10 @@ use Rattle.mp_cells.specs.RowCell.{row_cell}
 use Rattle.mp_cells.specs.ChildCell.{child_cell}
 use Rattle.mp_cells.specs.Changes.{HasCells}
 use Rattle.mp_cells.specs.Mtrs.{IsChange, IsPageRecord, AreRecords}
+use Rattle.mp_cells.specs.PageView.{is_leaf, is_inner}
+use Rattle.mp_cells.specs.Mtrs.{IsMtr}
+use Rattle.mp_cells.proofs.PageRanges.{leaf_ranges, inner_ranges}
+use Rattle.mp_cells.proofs.ChangeCells.{has_cells}
 use Rattle.mp_cells.proofs.RowSpelling.{length-row_cell, values_fit}
 use Rattle.mp_cells.proofs.ChildSpelling.{length-child_cell}
 use Rattle.byteorder.specs.Endian.{little_bytes}
@@ -81,20 +85,9 @@ change_is_long (PutUndo row) h = sym (cell_length row h)
 change_is_long (TakePage number) h = refl
 
 -- the records of an mtr have such cells
-change_has_cells : (change : Change) → IsChange change → HasCells change
-change_has_cells (MakeLeaf low high rows) h = h.1
-change_has_cells (MakeInner low high children) h = h.1
-change_has_cells MakeUndo h = tt
-change_has_cells (PutRow row) h = h
-change_has_cells (RestoreRow row) h = h
-change_has_cells (Cut from) h = tt
-change_has_cells (PutChild child) h = h
-change_has_cells (PutUndo row) h = h
-change_has_cells (TakePage number) h = tt
-
 pages_have_cells : (llsn : ℕ) (items : List Record) → AllByRecursion (IsPageRecord llsn) items → AllByRecursion RecordHasCells items
 pages_have_cells llsn [] h = tt
-pages_have_cells llsn (Page page prev change ∷ items) h = (change_has_cells change h.0.2, pages_have_cells llsn items h.1)
+pages_have_cells llsn (Page page prev change ∷ items) h = (has_cells change h.0.2, pages_have_cells llsn items h.1)
 pages_have_cells llsn (Commit id cts ∷ items) h = absurd h.0
 
 pub records_have_cells : (llsn : ℕ) (items : List Record) → AreRecords llsn items → AllByRecursion RecordHasCells items
@@ -140,3 +133,40 @@ make_puts low high n m cells others x y z same are_cells head put =
     subst (λ (k : ℕ). Puts (little_bytes 8 low ++ (little_bytes 8 high ++ k ∷ cells)) x z) same
     (subst (λ (rest : List ℕ). Puts (little_bytes 8 low ++ (little_bytes 8 high ++ m ∷ rest)) x z) are_cells
     (puts_both (little_bytes 8 low ++ (little_bytes 8 high ++ m ∷ [])) others x y z head put))
+
+-- ---- how long they are at most
+
+rows_most : (low high : ℕ) (rows : List Row) → is_leaf low high rows ≡ true → length rows ≤ 15
+rows_most low high rows h = (leaf_ranges low high rows h).most
+
+children_most : (low high : ℕ) (children : List Child) → is_inner low high children ≡ true → length children ≤ 124
+children_most low high children h = (inner_ranges low high children h).most
+
+change_most : (change : Change) → IsChange change → change_length change ≤ 1009
+change_most (MakeLeaf low high rows) h = omega (arith, rows_most low high rows h.0)
+change_most (MakeInner low high children) h = omega (arith, children_most low high children h.0)
+change_most MakeUndo h = omega arith
+change_most (PutRow row) h = omega arith
+change_most (RestoreRow row) h = omega arith
+change_most (Cut from) h = omega arith
+change_most (PutChild child) h = omega arith
+change_most (PutUndo row) h = omega arith
+change_most (TakePage number) h = omega arith
+
+record_length : (page prev : ℕ) (change : Change) → length (record_bytes (Page page prev change)) ≡ 11 + length (change_bytes change)
+record_length page prev change = let e : length (record_bytes (Page page prev change)) ≡ suc (suc (suc (suc (suc (suc (suc (suc (suc (suc (suc (length (change_bytes change)))))))))))) = refl in omega (arith, e)
+
+pages_most : (llsn : ℕ) (items : List Record) → AllByRecursion (IsPageRecord llsn) items → length (flat_map record_bytes items) ≤ 1020 * length items
+pages_most llsn [] h = omega arith
+pages_most llsn (Page page prev change ∷ items) h =
+    omega (arith, pages_most llsn items h.1, length-append (record_bytes (Page page prev change)) (flat_map record_bytes items), record_length page prev change, sym (change_is_long change (has_cells change h.0.2)), change_most change h.0.2)
+pages_most llsn (Commit id cts ∷ items) h = absurd h.0
+
+records_long : (llsn : ℕ) (items : List Record) → AreRecords llsn items → length (flat_map record_bytes items) ≤ 20400
+records_long llsn [] h = omega arith
+records_long llsn (Commit id cts ∷ []) h = omega arith
+records_long llsn (Page page prev change ∷ items) h = omega (arith, pages_most llsn (Page page prev change ∷ items) h.2, h.1)
+records_long llsn (Commit id cts ∷ x ∷ items) h = absurd h.2.0
+
+pub mtr_most : (mtr : Mtr) → IsMtr mtr → length (mtr_bytes mtr) ≤ 20410
+mtr_most mtr h = omega (arith, mtr_length mtr, records_long mtr.llsn mtr.records h.records)

@@ -101,16 +101,25 @@ make_inner_at bytes at =
     and_then (children_in count fences.0 fences.1 bytes (at + 17)) (λ children.
     Ok (MakeInner fences.0 fences.1 children, at + 17 + 8 * count)))))
 
+-- a change that has a row alone
+abbrev pub change_of_row : ChangeKind → Row → Change
+change_of_row kinds.RestoreRow row = RestoreRow row
+change_of_row kinds.PutUndo row = PutUndo row
+change_of_row _ row = PutRow row
+
+abbrev pub row_change_at : ChangeKind → List ℕ → ℕ → Read (Change × ℕ)
+row_change_at kind bytes at = and_then (row_at bytes at) (λ row. Ok (change_of_row kind row, at + 64))
+
 -- a change of a kind, and where it ends
 abbrev pub change_at : ChangeKind → List ℕ → ℕ → Read (Change × ℕ)
 change_at kinds.MakeLeaf bytes at = make_leaf_at bytes at
 change_at kinds.MakeInner bytes at = make_inner_at bytes at
 change_at kinds.MakeUndo bytes at = Ok (MakeUndo, at)
-change_at kinds.PutRow bytes at = and_then (row_at bytes at) (λ row. Ok (PutRow row, at + 64))
-change_at kinds.RestoreRow bytes at = and_then (row_at bytes at) (λ row. Ok (RestoreRow row, at + 64))
+change_at kinds.PutRow bytes at = row_change_at kinds.PutRow bytes at
+change_at kinds.RestoreRow bytes at = row_change_at kinds.RestoreRow bytes at
 change_at kinds.Cut bytes at = and_then (number 4 0 (2 ^ 32 - 1) bytes at) (λ from. Ok (Cut from, at + 4))
 change_at kinds.PutChild bytes at = and_then (child_at bytes at) (λ child. Ok (PutChild child, at + 8))
-change_at kinds.PutUndo bytes at = and_then (row_at bytes at) (λ row. Ok (PutUndo row, at + 64))
+change_at kinds.PutUndo bytes at = row_change_at kinds.PutUndo bytes at
 change_at kinds.TakePage bytes at = and_then (number 2 2 4095 bytes at) (λ page. Ok (TakePage page, at + 2))
 
 -- the kind with a number of 1 to 9
@@ -174,5 +183,5 @@ fault_of (Ok found) = None
 fault_of (Err place) = Some place
 
 -- the place of the first field that is cut off or not of the grammar, where the bytes begin with no mtr
-abbrev pub first_fault : List ℕ → Option ℕ
-first_fault bytes = fault_of (mtr_at bytes)
+abbrev pub mtr_fault : List ℕ → Option ℕ
+mtr_fault bytes = fault_of (mtr_at bytes)

@@ -1,23 +1,18 @@
 //! Mtrs read from bytes.
 
 ghost use Rattle.std.specs.Prelude.{◌≡◌, ◌⊎◌, ℕ, ◌+◌, ◌*◌, ◌<◌, ◌≤◌, List, [], ◌++◌, length, take, Some, Ok, Err, IfOk, IfErr};
-ghost use Rattle.mp_cells.specs.Numbers.{number_at};
-ghost use Rattle.mp_cells.specs.PageView.{are_fences};
-ghost use Rattle.mp_cells.specs.Rows.{is_writer};
 ghost use Rattle.mp_cells.specs.declared.records.Mtr.{Mtr};
 ghost use Rattle.mp_cells.specs.Mtrs.{IsMtr};
 ghost use Rattle.mp_redo.specs.declared.reading.RedoRefusal.TheVariants.{Fault, Memory};
 ghost use Rattle.mp_redo.specs.Spelling.{mtr_bytes, Spells};
-ghost use Rattle.mp_redo.specs.declared.kinds.ChangeKind.TheVariants.{PutRow, RestoreRow, PutUndo, Cut, PutChild, TakePage};
-ghost use Rattle.mp_redo.specs.Reading.{and_then, number, row_at, child_at, id_at, id_of, row_in, child_in, rows_in, children_in, fences_at, make_leaf_at, make_inner_at, change_at, kind_of, page_record_at, commit_at, most_kind, record_at, records_at, mtr_at, first_fault};
+ghost use Rattle.mp_redo.specs.declared.kinds.ChangeKind.TheVariants.{Cut, PutChild, TakePage};
+ghost use Rattle.mp_redo.specs.Reading.{and_then, make_leaf_at, make_inner_at, row_change_at, change_of_row, change_at, kind_of, page_record_at, commit_at, most_kind, record_at, records_at, mtr_at, mtr_fault};
 
-use crate::kinds::ChangeKind;
-use byteorder::{ByteOrder, LittleEndian};
-use mp_cells::{
-    Change, Child, ChildCells, Mtr, Record, Records, Row, RowCells, read_child, read_row, u16_at,
-    u32_at,
+use crate::field_reading::{
+    child_at, child_in, children_in, fences_at, id_at, number, row_at, rows_in,
 };
-use mp_model::TrxId;
+use crate::kinds::ChangeKind;
+use mp_cells::{Change, Mtr, Record, Records, Row};
 use std::alloc::Global;
 
 /// Why bytes give no mtr.
@@ -27,212 +22,6 @@ pub enum RedoRefusal {
     Fault { place: u64 },
     /// There was no memory.
     Memory,
-}
-
-// The number in so many bytes at a place.
-#[tactic(auto, unfolding(mp_cells::specs::Numbers::number_at))]
-fn number_at(width: usize, bytes: &[u8], at: usize) -> u64
-    requires low { 1 ≤ width }
-    requires high { width ≤ 8 }
-    requires room { at + width ≤ length bytes.now }
-    ensures { result ≡ number_at at width bytes.now }
-{
-    LittleEndian::read_uint(bytes.split_at(at).1, width)
-}
-
-// A number in so many bytes, in a range.
-#[tactic(auto, unfolding(crate::specs::Reading::number))]
-fn number(width: usize, least: u64, most: u64, bytes: &[u8], at: usize) -> Result<u64, usize>
-    requires low { 1 ≤ width }
-    requires high { width ≤ 8 }
-    requires within { at ≤ length bytes.now }
-    ensures exact { result ≡ number width least most bytes.now at }
-    ensures inside { IfErr result (λ place. place ≤ length bytes.now) }
-    ensures most { IfOk result (λ n. n ≤ most) }
-    ensures room { IfOk result (λ n. at + width ≤ length bytes.now) }
-{
-    if bytes.len() - at < width {
-        return Err(at);
-    }
-    let n = number_at(width, bytes, at);
-    if least <= n && n <= most {
-        Ok(n)
-    } else {
-        Err(at)
-    }
-}
-
-// A row's cell.
-#[tactic(auto, unfolding(crate::specs::Reading::row_at))]
-fn row_at(bytes: &[u8], at: usize) -> Result<Row, usize>
-    requires { at ≤ length bytes.now }
-    ensures exact { result ≡ row_at bytes.now at }
-    ensures inside { IfErr result (λ place. place ≤ length bytes.now) }
-    ensures room { IfOk result (λ row. at + 64 ≤ length bytes.now) }
-{
-    if bytes.len() - at < 64 {
-        return Err(at);
-    }
-    match read_row(bytes.split_at(at).1) {
-        Some(row) => Ok(row),
-        None => Err(at),
-    }
-}
-
-// A child's cell.
-#[tactic(auto, unfolding(crate::specs::Reading::child_at))]
-fn child_at(bytes: &[u8], at: usize) -> Result<Child, usize>
-    requires { at ≤ length bytes.now }
-    ensures exact { result ≡ child_at bytes.now at }
-    ensures inside { IfErr result (λ place. place ≤ length bytes.now) }
-    ensures room { IfOk result (λ child. at + 8 ≤ length bytes.now) }
-{
-    if bytes.len() - at < 8 {
-        return Err(at);
-    }
-    match read_child(bytes.split_at(at).1) {
-        Some(child) => Ok(child),
-        None => Err(at),
-    }
-}
-
-// The id of the transaction that a commit record names.
-#[tactic(auto, unfolding(crate::specs::Reading::id_at))]
-fn id_at(bytes: &[u8], at: usize) -> Result<TrxId, usize>
-    requires { at ≤ length bytes.now }
-    ensures exact { result ≡ id_at bytes.now at }
-    ensures inside { IfErr result (λ place. place ≤ length bytes.now) }
-    ensures room { IfOk result (λ id. at + 8 ≤ length bytes.now) }
-{
-    if bytes.len() - at < 8 {
-        return Err(at);
-    }
-    let cell = bytes.split_at(at).1;
-    let id = id_of(cell);
-    if cell[1] == 0 && is_writer(id) {
-        Ok(id)
-    } else {
-        Err(at)
-    }
-}
-
-fn id_of(bytes: &[u8]) -> TrxId
-    requires { 8 ≤ length bytes.now }
-    ensures { result ≡ id_of bytes.now }
-{
-    TrxId {
-        node: bytes[0],
-        slot: u16_at(bytes, 2),
-        version: u32_at(bytes, 4),
-    }
-}
-
-fn is_writer(id: TrxId) -> bool
-    ensures { result ≡ is_writer id }
-{
-    1 <= id.node && id.node <= 8 && id.slot < 8192 && 1 <= id.version && id.version < 1 << 24
-}
-
-// A row whose key is from `least` on and below `high`.
-fn row_in(least: u64, high: u64, bytes: &[u8], at: usize) -> Result<Row, usize>
-    requires { at ≤ length bytes.now }
-    ensures exact { result ≡ row_in least high bytes.now at }
-    ensures inside { IfErr result (λ place. place ≤ length bytes.now) }
-    ensures room { IfOk result (λ row. at + 64 ≤ length bytes.now) }
-{
-    let row = match row_at(bytes, at) {
-        Ok(row) => row,
-        Err(place) => return Err(place),
-    };
-    let key = u64::from(row.key);
-    if least <= key && key < high {
-        Ok(row)
-    } else {
-        Err(at)
-    }
-}
-
-// A child whose low key is from `least` on and below `high`.
-fn child_in(least: u64, high: u64, bytes: &[u8], at: usize) -> Result<Child, usize>
-    requires { at ≤ length bytes.now }
-    ensures exact { result ≡ child_in least high bytes.now at }
-    ensures inside { IfErr result (λ place. place ≤ length bytes.now) }
-    ensures room { IfOk result (λ child. at + 8 ≤ length bytes.now) }
-{
-    let child = child_at(bytes, at)?;
-    let key = u64::from(child.low);
-    if least <= key && key < high {
-        Ok(child)
-    } else {
-        Err(at)
-    }
-}
-
-// So many rows, whose keys rise from `low` on and below `high`.
-fn rows_in(count: usize, low: u64, high: u64, bytes: &[u8], at: usize) -> Result<RowCells, usize>
-    requires most { count ≤ 15 }
-    requires within { at ≤ length bytes.now }
-    ensures exact { result ≡ rows_in count low high bytes.now at }
-    ensures inside { IfErr result (λ place. place ≤ length bytes.now) }
-    ensures room { IfOk result (λ rows. at + 64 * count ≤ length bytes.now) }
-{
-    let mut rows = RowCells::new();
-    let mut least = low;
-    for i in 0..count {
-        let row = match row_in(least, high, bytes, at + 64 * i) {
-            Ok(row) => row,
-            Err(place) => return Err(place),
-        };
-        least = u64::from(row.key) + 1;
-        rows.put(row);
-    }
-    Ok(rows)
-}
-
-// So many children, whose low keys rise from `low` on and below `high`.
-fn children_in(
-    count: usize,
-    low: u64,
-    high: u64,
-    bytes: &[u8],
-    at: usize,
-) -> Result<ChildCells, usize>
-    requires most { count ≤ 124 }
-    requires within { at ≤ length bytes.now }
-    ensures exact { result ≡ children_in count low high bytes.now at }
-    ensures inside { IfErr result (λ place. place ≤ length bytes.now) }
-    ensures room { IfOk result (λ children. at + 8 * count ≤ length bytes.now) }
-{
-    let mut children = ChildCells::new();
-    let mut least = low;
-    for i in 0..count {
-        let child = child_in(least, high, bytes, at + 8 * i)?;
-        least = u64::from(child.low) + 1;
-        children.put(child);
-    }
-    Ok(children)
-}
-
-// Two fences; a fault of the two together is at the first.
-fn fences_at(bytes: &[u8], at: usize) -> Result<(u64, u64), usize>
-    requires { at ≤ length bytes.now }
-    ensures exact { result ≡ fences_at bytes.now at }
-    ensures inside { IfErr result (λ place. place ≤ length bytes.now) }
-    ensures room { IfOk result (λ fences. at + 16 ≤ length bytes.now) }
-{
-    let low = number(8, 0, u64::MAX, bytes, at)?;
-    let high = number(8, 0, u64::MAX, bytes, at + 8)?;
-    if are_fences(low, high) {
-        Ok((low, high))
-    } else {
-        Err(at)
-    }
-}
-
-fn are_fences(low: u64, high: u64) -> bool
-    ensures { result ≡ are_fences low high }
-{
-    low < high && high <= 1 << 32
 }
 
 // The change of a MakeLeaf record, from its fences on, and where it ends.
@@ -280,48 +69,35 @@ fn change_at(kind: ChangeKind, bytes: &[u8], at: usize) -> Result<(Change, usize
         ChangeKind::MakeLeaf => make_leaf_at(bytes, at),
         ChangeKind::MakeInner => make_inner_at(bytes, at),
         ChangeKind::MakeUndo => Ok((Change::MakeUndo, at)),
-        ChangeKind::PutRow => put_row_at(bytes, at),
-        ChangeKind::RestoreRow => restore_row_at(bytes, at),
+        ChangeKind::PutRow | ChangeKind::RestoreRow | ChangeKind::PutUndo => {
+            row_change_at(kind, bytes, at)
+        }
         ChangeKind::Cut => cut_at(bytes, at),
         ChangeKind::PutChild => put_child_at(bytes, at),
-        ChangeKind::PutUndo => put_undo_at(bytes, at),
         ChangeKind::TakePage => take_page_at(bytes, at),
     }
 }
 
-fn put_row_at(bytes: &[u8], at: usize) -> Result<(Change, usize), usize>
+// A change that has a row alone.
+fn row_change_at(kind: ChangeKind, bytes: &[u8], at: usize) -> Result<(Change, usize), usize>
     requires { at ≤ length bytes.now }
-    ensures exact { result ≡ change_at PutRow bytes.now at }
+    ensures exact { result ≡ row_change_at kind bytes.now at }
     ensures inside { IfErr result (λ place. place ≤ length bytes.now) }
     ensures room { IfOk result (λ change. change.1 ≤ length bytes.now) }
 {
     match row_at(bytes, at) {
-        Ok(row) => Ok((Change::PutRow { row }, at + 64)),
+        Ok(row) => Ok((change_of_row(kind, row), at + 64)),
         Err(place) => Err(place),
     }
 }
 
-fn restore_row_at(bytes: &[u8], at: usize) -> Result<(Change, usize), usize>
-    requires { at ≤ length bytes.now }
-    ensures exact { result ≡ change_at RestoreRow bytes.now at }
-    ensures inside { IfErr result (λ place. place ≤ length bytes.now) }
-    ensures room { IfOk result (λ change. change.1 ≤ length bytes.now) }
+fn change_of_row(kind: ChangeKind, row: Row) -> Change
+    ensures { result ≡ change_of_row kind row }
 {
-    match row_at(bytes, at) {
-        Ok(row) => Ok((Change::RestoreRow { row }, at + 64)),
-        Err(place) => Err(place),
-    }
-}
-
-fn put_undo_at(bytes: &[u8], at: usize) -> Result<(Change, usize), usize>
-    requires { at ≤ length bytes.now }
-    ensures exact { result ≡ change_at PutUndo bytes.now at }
-    ensures inside { IfErr result (λ place. place ≤ length bytes.now) }
-    ensures room { IfOk result (λ change. change.1 ≤ length bytes.now) }
-{
-    match row_at(bytes, at) {
-        Ok(row) => Ok((Change::PutUndo { row }, at + 64)),
-        Err(place) => Err(place),
+    match kind {
+        ChangeKind::RestoreRow => Change::RestoreRow { row },
+        ChangeKind::PutUndo => Change::PutUndo { row },
+        _ => Change::PutRow { row },
     }
 }
 
@@ -491,7 +267,7 @@ pub fn decode(alloc: Global, bytes: &[u8]) -> Result<(Mtr, usize), RedoRefusal>
     // An mtr's spelling is read as that mtr, whatever follows.
     ensures only { (mtr : Mtr) (rest : List ℕ) → IsMtr mtr → bytes.now ≡ mtr_bytes mtr ++ rest → (result ≡ Ok (mtr, length (mtr_bytes mtr))) ⊎ (result ≡ Err Memory) }
     // Which fault it is.
-    ensures fault { (place : ℕ) → result ≡ Err (Fault place) → first_fault bytes.now ≡ Some place }
+    ensures fault { (place : ℕ) → result ≡ Err (Fault place) → mtr_fault bytes.now ≡ Some place }
     ensures inside { (place : ℕ) → result ≡ Err (Fault place) → place ≤ length bytes.now }
 {
     let Ok(records) = Records::with_room(alloc) else {

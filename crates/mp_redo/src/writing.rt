@@ -20,10 +20,11 @@ use mp_cells::{
 };
 use mp_model::{Text, TrxId};
 
-/// How many bytes an mtr has in a log. It is one that a log may hold.
+/// How many bytes an mtr has in a log: at most 20,410. Its rows and children are such as a page may keep.
 pub fn size(mtr: &Mtr) -> usize
-    requires { IsMtr mtr.now }
-    ensures { result ≡ length (mtr_bytes mtr.now) }
+    requires { AllByRecursion RecordHasCells mtr.now.records }
+    ensures exact { result ≡ length (mtr_bytes mtr.now) }
+    ensures most { result ≤ 20410 }
 {
     10 + records_size(mtr.records.as_slice())
 }
@@ -32,7 +33,7 @@ fn records_size(records: &[Record]) -> usize
     requires most { length records.now ≤ 20 }
     requires cells { AllByRecursion RecordHasCells records.now }
     ensures exact { result ≡ length (flat_map record_bytes records.now) }
-    ensures bound { result ≤ 2000 * length records.now }
+    ensures bound { result ≤ 1020 * length records.now }
 {
     let mut size = 0;
     for record in records {
@@ -44,7 +45,7 @@ fn records_size(records: &[Record]) -> usize
 fn record_size(record: &Record) -> usize
     requires { RecordHasCells record.now }
     ensures exact { result ≡ length (record_bytes record.now) }
-    ensures bound { result ≤ 2000 }
+    ensures bound { result ≤ 1020 }
 {
     match record {
         Record::Page { change, .. } => 11 + change_size(change),
@@ -55,7 +56,7 @@ fn record_size(record: &Record) -> usize
 fn change_size(change: &Change) -> usize
     requires { HasCells change.now }
     ensures exact { result ≡ length (change_bytes change.now) }
-    ensures bound { result ≤ 1900 }
+    ensures bound { result ≤ 1009 }
 {
     match change {
         Change::MakeLeaf { rows, .. } => 17 + 64 * rows.len(),

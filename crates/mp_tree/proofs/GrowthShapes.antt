@@ -15,13 +15,14 @@ use Rattle.mp_cells.specs.Trees.{PageMap, top, root, IsTree, uses, child_from, c
 use Rattle.mp_cells.proofs.TreeSearch.{tree_found}
 use Rattle.mp_plans.specs.Growth as grows
 use Rattle.mp_plans.specs.Growth.{growth_of, has_place}
-use Rattle.mp_plans.proofs.Uses.{one_if-same, one_if-other}
-use Rattle.mp_plans.proofs.Heights.{numbers, height_most, root_has_room}
-use Rattle.mp_plans.proofs.Spare.{leaf_facts, inner_facts, content_of}
+use Rattle.mp_cells.proofs.Uses.{one_if-same, one_if-other}
+use Rattle.mp_cells.proofs.Heights.{numbers, height_most, root_has_room}
+use Rattle.mp_cells.proofs.Spare.{leaf_facts, inner_facts, content_of}
 use Rattle.mp_plans.proofs.Growths.{child_not_root}
 use Rattle.mp_tree.specs.declared.growth.Growth.TheVariants.{Leaf as UnderParent, Inner as WithParent, Higher}
 use Rattle.mp_tree.specs.declared.search.Stop.{Stop}
-use Rattle.mp_tree.specs.Planning.{stop_on, shape_of, growth_under}
+use Rattle.mp_tree.specs.Searches.{leaf_for, stop_on, stop_above}
+use Rattle.mp_tree.specs.Planning.{shape_of, growth_under}
 use Rattle.mp_tree.proofs.Descent.{begins, goes_on, inner_on_path}
 use Rattle.mp_tree.proofs.PageFacts.{some_child}
 
@@ -132,16 +133,12 @@ fits_growth pages height key tree lt = by_place (has_place key (pages (leaf_at p
         stays_fits (suc (suc more)) tree e = subst (λ (b : Bool). GrowthFits pages key (leaf_at pages (suc (suc more)) key root).page (cond b grows.stays (cond (nat_lt (length (pages (leaf_at pages (suc more) key root).page).children) 124) (grows.leaf (leaf_at pages (suc more) key root).page) (grows.inner (leaf_at pages (suc more) key root).page)))) (sym e) e
     by_place false e = full_fits pages height key tree lt e
 
--- ---- as the search for the parent finds it
+-- ---- as the path shows it
 
-pub parent_shape : (pages : PageMap) (height key : ℕ) (leaf : Stop) (found : Option Stop) → IsTree pages height → leaf ≡ stop_on pages height key → leaf.number ≢ 1 → has_place key leaf.page ≡ false
-    → ((h : ℕ) → IsTree pages (suc h) → leaf.number ≡ (leaf_at pages (suc h) key root).page → found ≡ Some (stop_on pages h key)) → (parent : Stop) × (found ≡ Some parent) × (shape_of (growth_under parent) ≡ growth_of pages height key)
-parent_shape pages zero key leaf found tree is apart none search = absurd (apart (ap (λ (s : Stop). s.number) is))
-parent_shape pages (suc h) key leaf found tree is apart none search =
-    (stop_on pages h key, search h tree (ap (λ (s : Stop). s.number) is), shape_under pages h key tree (ap (λ (s : Stop). has_place key s.page) (sym is) ∙ none))
+pub above_shape : (pages : PageMap) (height key : ℕ) (parent : Stop) → IsTree pages height → Some parent ≡ stop_above pages height key → has_place key (leaf_for pages height key) ≡ false → shape_of (growth_under parent) ≡ growth_of pages height key
+above_shape pages zero key parent tree is none = absurd cc
+above_shape pages (suc h) key parent tree is none = let same : parent ≡ stop_on pages h key = cc in ap (λ (s : Stop). shape_of (growth_under s)) same ∙ shape_under pages h key tree none
 
-pub same_stop : (found : Option Stop) (parent other : Stop) → found ≡ Some parent → found ≡ Some other → parent ≡ other
-same_stop found parent other a b = cc
-
-pub none_found : (found : Option Stop) (other : Stop) → found ≡ None → found ≡ Some other → ⊥
-none_found found other a b = absurd cc
+pub root_shape : (pages : PageMap) (height key : ℕ) → None ≡ stop_above pages height key → has_place key (leaf_for pages height key) ≡ false → grows.new_root ≡ growth_of pages height key
+root_shape pages zero key is none = sym (ap (λ (b : Bool). cond b grows.stays grows.new_root) none)
+root_shape pages (suc h) key is none = absurd cc

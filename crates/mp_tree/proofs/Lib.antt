@@ -5,3 +5,4 @@ pub mod ClearPages
 pub mod GrowthShapes
 pub mod NewPages
 pub mod PlanWrite
+pub mod PlanAsking

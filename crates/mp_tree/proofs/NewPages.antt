@@ -7,7 +7,7 @@ use Rattle.std.proofs.lemmas.Bool.{cases_lt, cases_eq, lt-ltb}
 use Rattle.mp_cells.specs.PageView.{PageView, bit_of}
 use Rattle.mp_cells.specs.Trees.{PageMap, IsTree, uses, tree_pages}
 use Rattle.mp_plans.specs.Growth.{Growth, stays, new_root, leaf, inner, higher, pages_needed}
-use Rattle.mp_plans.proofs.Uses.{one_if-same, one_if-other, one_if-most}
+use Rattle.mp_cells.proofs.Uses.{one_if-same, one_if-other, one_if-most}
 use Rattle.mp_tree.specs.declared.new_pages.New.{New}
 use Rattle.mp_tree.specs.Planning.{clear_from, clear_pages, IsNextClear}
 use Rattle.mp_tree.specs.Writing.{IsFront, IsNew, HasNew, needed_for}

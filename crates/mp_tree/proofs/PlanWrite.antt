@@ -10,9 +10,9 @@ use Rattle.mp_cells.specs.declared.rows.Link.{Link}
 use Rattle.mp_cells.specs.Rows.{IsRow, is_writer}
 use Rattle.mp_cells.specs.Trees.{PageMap, root, IsTree, leaf_at, uses}
 use Rattle.mp_cells.proofs.TreeSearch.{tree_found}
-use Rattle.mp_plans.specs.Plans.{Plan}
+use Rattle.mp_cells.specs.Plans.{Plan}
 use Rattle.mp_plans.specs.Growth.{Growth, growth_of, write_plan}
-use Rattle.mp_plans.specs.Writes.{WellPut}
+use Rattle.mp_cells.specs.Writes.{WellPut}
 use Rattle.mp_plans.proofs.WritePlans.{well_written}
 use Rattle.mp_tree.specs.declared.search.Stop.{Stop}
 use Rattle.mp_tree.specs.declared.growth.Reading.{Reading}

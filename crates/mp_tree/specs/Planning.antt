@@ -4,27 +4,13 @@ use Rattle.mp_cells.specs.declared.kinds.Kind.TheVariants.{Leaf, Inner, Undo}
 use Rattle.mp_cells.specs.declared.rows.Link.{Link}
 use Rattle.mp_cells.specs.PageView.{PageView, IsPage, bit_of}
 use Rattle.mp_cells.specs.Trees.{PageMap, root, leaf_at, child_at}
-use Rattle.mp_page.specs.Pagers.{Handed}
 use Rattle.mp_plans.specs.Growth as grows
 use Rattle.mp_plans.specs.Growth.{growth_of, pages_needed, write_plan, new_pages}
 use Rattle.mp_tree.specs.declared.search.Stop.{Stop}
+use Rattle.mp_tree.specs.Searches.{stop_on}
 use Rattle.mp_tree.specs.declared.growth.Growth.{Growth}
 use Rattle.mp_tree.specs.declared.growth.Reading.{Reading}
 use Rattle.mp_tree.specs.declared.growth.Growth.TheVariants.{Stays, NewRoot, Leaf as UnderParent, Inner as WithParent, Higher}
-
--- ---- the parent of a page
-
--- a page that was found is an inner page under which a search for the key goes on to a child, and was handed out
-pub record IsParentAt (given : Handed) (key below : ℕ) (stop : Stop) : Type 0 where
-  pub range : stop.number < 4096
-  pub handed : given stop.number ≡ Some stop.page
-  pub page : IsPage stop.page
-  pub kind : stop.page.kind ≡ Inner
-  pub child : (child_at key stop.page.children).page ≡ below
-
--- the page so many levels below the root on the way to a key
-abbrev pub stop_on : PageMap → ℕ → ℕ → Stop
-stop_on pages depth key = let number = (leaf_at pages depth key root).page in record { number = number; page = pages number }
 
 -- ---- how the tree grows
 

@@ -1,15 +1,17 @@
 -- The pages that a write takes, what its call does with the pager, and what its answers say.
-use Rattle.std.specs.Prelude.{◌≡◌, ℕ, ◌+◌, ◌-◌, ◌^◌, ◌<◌, ◌≤◌, min, Bool, List, [], ◌∷◌, ◌++◌, length, take, Option, Some, None, is_none, Result, OnOk, IfErr, if◌then◌else◌}
+use Rattle.std.specs.Prelude.{◌≡◌, ℕ, ◌+◌, ◌-◌, ◌^◌, ◌<◌, ◌≤◌, min, Bool, List, [], ◌∷◌, ◌++◌, length, take, Option, Some, None, is_none, Result, OnOk, ◌⊎◌, IfErr, if◌then◌else◌}
+use Rattle.std.specs.List.{AllByRecursion}
 use Rattle.mp_model.specs.declared.waiting.NotYet.{NotYet}
 use Rattle.mp_cells.specs.declared.rows.Link.{Link}
 use Rattle.mp_cells.specs.declared.rows.Row.{Row}
 use Rattle.mp_cells.specs.PageView.{PageView}
-use Rattle.mp_cells.specs.Trees.{PageMap, root, leaf_at, one_if}
-use Rattle.mp_page.specs.Pagers.{Handed}
-use Rattle.mp_plans.specs.Plans.{Plan}
+use Rattle.mp_cells.specs.Trees.{PageMap, root, leaf_at, one_if, uses}
+use Rattle.mp_page.specs.Pagers.{Handed, Extends}
+use Rattle.mp_tree.specs.Searches.{IsOnPath}
+use Rattle.mp_cells.specs.Plans.{Plan}
 use Rattle.mp_plans.specs.Growth as grows
 use Rattle.mp_plans.specs.Growth.{Growth, growth_of, pages_needed, new_pages, write_plan}
-use Rattle.mp_plans.specs.Writes.{WellPut}
+use Rattle.mp_cells.specs.Writes.{WellPut}
 use Rattle.mp_tree.specs.declared.new_pages.New.{New}
 use Rattle.mp_tree.specs.declared.write.Write.{Write}
 use Rattle.mp_tree.specs.declared.write.PlanKind.{PlanKind}
@@ -48,12 +50,36 @@ abbrev pub Refuses : {P : Type 0} → (P → ℕ) → (P → NotYet) → P → P
 Refuses waits last old new (refusals.Full needed clear) = (waits new ≡ waits old) × (last new ≡ last old)
 Refuses waits last old new (refusals.NotYet wait) = (min (waits old + 1) (2 ^ 64 - 1) ≤ waits new) × (last new ≡ wait)
 
+-- a refusal for want of pages says so of page 0, which was handed out; at most 4 pages are ever needed
+abbrev pub IsFullBy : Handed → PlanRefusal → Type 0
+IsFullBy handed (refusals.Full needed clear) = (meta : PageView) × (handed 0 ≡ Some meta) × (needed ≤ 4) × (clear ≡ length (clear_pages meta)) × (clear < needed)
+IsFullBy handed (refusals.NotYet wait) = Unit {0}
+
+-- a refusal of the pager is for a page that it withholds
+abbrev pub IsWithheld : (ℕ → Type 0) → List ℕ → PlanRefusal → Type 0
+IsWithheld withholds asked (refusals.Full needed clear) = Unit {0}
+IsWithheld withholds asked (refusals.NotYet wait) = (n : ℕ) × (1 ≤ uses n asked) × withholds n
+
 -- what the call does with its pager
-pub record AsksPlan {P : Type 0} {A : Type 0} (handed : P → Handed) (waits : P → ℕ) (last : P → NotYet) (follows : P → P → Type 0) (old new : P) (result : Result A PlanRefusal) : Type 0 where
+pub record AsksPlan {P : Type 0} {A : Type 0} (handed : P → Handed) (waits : P → ℕ) (last : P → NotYet) (follows : P → P → Type 0) (withholds : P → ℕ → Type 0) (MayAsk : PageMap → ℕ → Type 0) (most : ℕ) (old new : P) (result : Result A PlanRefusal) : Type 0 where
   pub same : follows old new
   pub kept : (n : ℕ) (page : PageView) → handed old n ≡ Some page → handed new n ≡ Some page
   pub quiet : OnOk result ((waits new ≡ waits old) × (last new ≡ last old))
   pub refused : IfErr result (Refuses waits last old new)
+  -- it asks for so many pages at most, each one that it may ask for, and no other is handed out
+  pub asked : List ℕ
+  pub few : length asked ≤ most
+  pub may : (pages : PageMap) → Extends pages (handed new) → AllByRecursion (MayAsk pages) asked
+  pub others : (n : ℕ) → uses n asked ≡ 0 → handed new n ≡ handed old n
+  pub withheld : IfErr result (IsWithheld (withholds new) asked)
+
+-- a page that a write of a key reads to see how the tree grows and where the undo record goes
+abbrev pub IsRead : ℕ → Option ℕ → PageMap → ℕ → Type 0
+IsRead key undo_page pages n = IsOnPath key pages n ⊎ (undo_page ≡ Some n)
+
+-- a page that a write of a key asks for: one of these, or page 0
+abbrev pub IsReadOrMeta : ℕ → Option ℕ → PageMap → ℕ → Type 0
+IsReadOrMeta key undo_page pages n = IsRead key undo_page pages n ⊎ (n ≡ 0)
 
 -- ---- the plan
 

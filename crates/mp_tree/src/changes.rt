@@ -7,7 +7,7 @@ ghost use Rattle.mp_cells.specs.declared.kinds.Kind.TheVariants.{Leaf};
 ghost use Rattle.mp_cells.specs.PageView.{IsPage};
 ghost use Rattle.mp_cells.specs.Trees.{PageMap, row_at};
 ghost use Rattle.mp_plans.specs.Growth.{leaf_separator, growth_changes, leaf_after, new_pages, takes, write_plan, side, put_child};
-ghost use Rattle.mp_plans.specs.Writes.{version_of};
+ghost use Rattle.mp_cells.specs.Writes.{version_of};
 ghost use Rattle.mp_tree.specs.Planning.{shape_of, HasPages, CanSplit, IsFullInner, IsSound};
 ghost use Rattle.mp_tree.specs.declared.growth.Growth.TheVariants.{Inner as WithParent, Higher};
 ghost use Rattle.mp_tree.specs.Writing.{link_of, row_of};

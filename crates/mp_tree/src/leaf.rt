@@ -1,7 +1,9 @@
 //! What is read from one page.
 
-ghost use Rattle.std.specs.Prelude.{◌≡◌, ◌<◌, IsTrue};
+ghost use Rattle.std.specs.Prelude.{◌≡◌, ◌<◌, IsTrue, IfSome};
+ghost use Rattle.std.specs.List.{AllByRecursion};
 ghost use Rattle.mp_cells.specs.declared.kinds.Kind.TheVariants.{Leaf, Inner};
+ghost use Rattle.mp_cells.specs.Rows.{IsRow};
 ghost use Rattle.mp_cells.specs.Children.{IsChild};
 ghost use Rattle.mp_cells.specs.PageView.{IsPage};
 ghost use Rattle.mp_cells.specs.Changes.{holds_row};
@@ -30,10 +32,11 @@ pub(crate) fn child_for(page: &Page, key: u32) -> Child
 }
 
 /// A leaf's row of a key.
-pub(crate) fn row_in(page: &Page, key: u32) -> Option<Row>
+pub fn row_in(page: &Page, key: u32) -> Option<Row>
     requires page { IsPage page.now }
     requires kind { page.now.kind ≡ Leaf }
-    ensures { result ≡ row_at key page.now.rows }
+    ensures value { result ≡ row_at key page.now.rows }
+    ensures kept { IfSome result IsRow }
 {
     for i in 0..page.count() {
         let row = page.row(i);
@@ -45,10 +48,11 @@ pub(crate) fn row_in(page: &Page, key: u32) -> Option<Row>
 }
 
 /// A leaf's rows from a key on.
-pub(crate) fn rows_in(page: &Page, low: u32) -> RowCells
+pub fn rows_in(page: &Page, low: u32) -> RowCells
     requires page { IsPage page.now }
     requires kind { page.now.kind ≡ Leaf }
-    ensures { result ≡ rows_above low page.now.rows }
+    ensures value { result ≡ rows_above low page.now.rows }
+    ensures kept { AllByRecursion IsRow result }
 {
     let mut rows = RowCells::new();
     for i in 0..page.count() {

@@ -12,9 +12,10 @@ mod restore;
 mod search;
 mod write;
 
+pub use leaf::{row_in, rows_in};
 pub use plan::Plan;
 pub use restore::plan_restore;
-pub use search::{LeafRows, find, rows_from};
+pub use search::{LeafRows, Look, find, look_at, rows_from};
 pub use write::{PlanKind, PlanRefusal, Write, plan_write};
 
 #[cfg(test)]

@@ -31,6 +31,8 @@ impl Pager for Store {
 
     ghost follows = { λ p q. p ≡ q };
 
+    ghost withholds = { λ p n. ⊥ };
+
     ghost follows_self = { λ p. refl };
 
     ghost follows_on = { λ p q r h k. h ∙ k };

@@ -7,7 +7,7 @@ ghost use Rattle.mp_cells.specs.Trees.{PageMap, one_if};
 ghost use Rattle.mp_page.specs.Pagers.{Extends};
 ghost use Rattle.mp_plans.specs.Growth.{pages_needed};
 ghost use Rattle.mp_tree.specs.Planning.{shape_of, clear_pages};
-ghost use Rattle.mp_tree.specs.Writing.{AsksPlan, IsFront, IsNew, HasNew, IsFullFor, IsFullAnswer, needed_for};
+ghost use Rattle.mp_tree.specs.Writing.{AsksPlan, IsFront, IsNew, HasNew, IsFullFor, IsFullBy, IsFullAnswer, needed_for};
 
 use crate::clear::{count_clear, next_clear};
 use crate::growth::{Growth, Reading};
@@ -40,9 +40,11 @@ pub(crate) fn pages_for<P: Pager>(
     pager: &mut P,
     reading: &Reading,
 ) -> Result<Option<New>, PlanRefusal>
-    ensures asks { AsksPlan P.handed P.waits P.last P.follows pager.old pager.new result }
+    ensures asks { AsksPlan P.handed P.waits P.last P.follows P.withholds (λ pages n. n ≡ 0) 1 pager.old pager.new result }
     ensures new { IfOk result (λ found. (pages : PageMap) → Extends pages (P.handed pager.new) → (pages 0).kind ≡ Meta → IsSome found × IfSome found (HasNew pages (is_none reading.now.place) (shape_of reading.now.growth))) }
     ensures full { IfErr result (λ refusal. (pages : PageMap) → Extends pages (P.handed pager.new) → IsFullFor pages (needed_for (is_none reading.now.place) (shape_of reading.now.growth)) refusal) }
+    ensures by { IfErr result (λ refusal. IsFullBy (P.handed pager.new) refusal) }
+    ensures unread { needed_for (is_none reading.now.place) (shape_of reading.now.growth) ≡ 0 → P.handed pager.new 0 ≡ P.handed pager.old 0 }
 {
     let fresh = is_fresh(reading);
     let needed = needed(&reading.growth, fresh);

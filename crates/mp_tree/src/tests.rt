@@ -30,6 +30,8 @@ impl Pager for ThreePages {
 
     ghost follows = { λ p q. p ≡ q };
 
+    ghost withholds = { λ p n. ⊥ };
+
     ghost follows_self = { λ p. refl };
 
     ghost follows_on = { λ p q r h k. h ∙ k };

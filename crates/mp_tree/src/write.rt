@@ -6,7 +6,7 @@ ghost use Rattle.mp_cells.specs.Trees.{PageMap, IsTree};
 ghost use Rattle.mp_page.specs.Pagers.{Extends};
 ghost use Rattle.mp_plans.specs.Growth.{growth_of};
 ghost use Rattle.mp_tree.specs.Planning.{shape_of, HasUndo, undo_place};
-ghost use Rattle.mp_tree.specs.Writing.{AsksPlan, IsFullFor, IsWrite, kind_of, needed_for};
+ghost use Rattle.mp_tree.specs.Writing.{AsksPlan, IsFullFor, IsFullBy, IsReadOrMeta, IsWrite, kind_of, needed_for};
 
 use crate::changes::put_write;
 use crate::growth::{Growth, reading_for};
@@ -48,8 +48,10 @@ pub enum PlanRefusal {
 /// an undo record, and the key's row is the new one, whose link names that record. Where the pages are no tree, or the
 /// current undo page is none, the plan means nothing.
 ///
-/// `Full` comes exactly where more pages are needed than are clear, and says both numbers. `NotYet` is the pager's answer.
-/// Either leaves the plan empty; what was handed out stays. It takes no memory.
+/// It asks only for pages on the key's path, the current undo page and page 0, at most five, and for page 0 only where
+/// pages are needed. `Full` comes exactly where more pages are needed (at most 4) than are clear, after page 0 was read, and
+/// says both numbers. `NotYet` is the pager's answer, for one of these pages. Either leaves the plan empty; what was handed
+/// out stays. It takes no memory.
 pub fn plan_write<P: Pager>(
     pager: &mut P,
     write: &Write,
@@ -58,9 +60,11 @@ pub fn plan_write<P: Pager>(
 ) -> Result<PlanKind, PlanRefusal>
     requires writer { IsTrue (is_writer write.now.writer) }
     requires undo { IfSome undo_page (λ u. (2 ≤ u) × (u < 4096)) }
-    ensures asks { AsksPlan P.handed P.waits P.last P.follows pager.old pager.new result }
+    ensures asks { AsksPlan P.handed P.waits P.last P.follows P.withholds (IsReadOrMeta write.now.key undo_page) 5 pager.old pager.new result }
     ensures written { IfOk result (λ kind. (given : PageMap) → Extends given (P.handed pager.new) → HasUndo given undo_page → (height : ℕ) → IsTree given height → IsWrite given height write.now undo_page kind plan.new) }
     ensures full { IfErr result (λ refusal. (given : PageMap) → Extends given (P.handed pager.new) → HasUndo given undo_page → (height : ℕ) → IsTree given height → IsFullFor given (needed_for (is_none (undo_place given undo_page)) (growth_of given height write.now.key)) refusal) }
+    ensures by { IfErr result (λ refusal. IsFullBy (P.handed pager.new) refusal) }
+    ensures unread { (given : PageMap) → Extends given (P.handed pager.new) → HasUndo given undo_page → (height : ℕ) → IsTree given height → needed_for (is_none (undo_place given undo_page)) (growth_of given height write.now.key) ≡ 0 → P.handed pager.new 0 ≡ P.handed pager.old 0 }
     ensures refused { OnErr result (plan.new ≡ []) }
 {
     plan.clear();

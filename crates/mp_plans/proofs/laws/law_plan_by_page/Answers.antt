@@ -1,5 +1,5 @@
 -- The fold, page by page.
-use Rattle.mp_plans.proofs.ByPage.{after_plan-page, Meets-pages, Meets-from_pages}
+use Rattle.mp_cells.proofs.ByPage.{after_plan-page, Meets-pages, Meets-from_pages}
 use Rattle.mp_plans.proofs.laws.law_plan_by_page.Goals as goal
 
 pub returns-clause-page : goal.returns-clause-page

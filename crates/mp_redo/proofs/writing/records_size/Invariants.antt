@@ -7,5 +7,5 @@ use Rattle.mp_redo.proofs.writing.records_size.Given as goal
 abbrev pub invariant-loop-record : goal.invariant-loop-record
 invariant-loop-record l = record {
   exact : l.size ≡ length (flat_map record_bytes (take l.record-index l.records));
-  bound : l.size ≤ 2000 * l.record-index;
+  bound : l.size ≤ 1020 * l.record-index;
 }

@@ -6,4 +6,4 @@ use Rattle.mp_tree.proofs.PageFacts.{held_row}
 use Rattle.mp_tree.proofs.leaf.holds_key.Goals as goal
 
 pub returns : goal.returns
-returns c = c.is_some.ensures ∙ ap (λ (row : Option Row). is_some row) c.row_in.ensures ∙ held_row c.args.key c.args.page.now.rows
+returns c = c.is_some.ensures ∙ ap (λ (row : Option Row). is_some row) c.row_in.ensures.value ∙ held_row c.args.key c.args.page.now.rows
