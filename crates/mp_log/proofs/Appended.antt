@@ -9,7 +9,7 @@ use Rattle.mp_cells.specs.Mtrs.{IsMtr}
 use Rattle.mp_cells.proofs.KeyEdits.{All-append}
 use Rattle.mp_redo.specs.Spelling.{mtr_bytes}
 use Rattle.mp_log.specs.Logs.{batch_bytes, mtrs_of, last_after, IsOf, AreLogged}
-use Rattle.mp_log.specs.Tails.{TailView, Stands}
+use Rattle.mp_log.specs.Tails.{TailView, LogStands}
 
 abbrev pub llsn_of : Mtr → ℕ
 llsn_of mtr = mtr.llsn
@@ -31,7 +31,7 @@ logged_more node mtrs mtr h sound is_node above = record {
 }
 
 pub appended : (batches : List (List Mtr)) (pending : List Mtr) (mtr : Mtr) (tail : TailView) (seen : List ℕ) (image : List ℕ → Type 0) → IsMtr mtr → mtr.node ≡ tail.node → tail.last < mtr.llsn
-    → Stands batches pending tail seen image → Stands batches (pending ++ mtr ∷ []) (record tail { last = mtr.llsn; bytes = tail.bytes ++ mtr_bytes mtr }) seen image
+    → LogStands batches pending tail seen image → LogStands batches (pending ++ mtr ∷ []) (record tail { last = mtr.llsn; bytes = tail.bytes ++ mtr_bytes mtr }) seen image
 appended batches pending mtr tail seen image sound node above stands =
     let all = mtrs_of batches ++ pending in
     let same : all ++ mtr ∷ [] ≡ mtrs_of batches ++ (pending ++ mtr ∷ []) = append_assoc (mtrs_of batches) pending (mtr ∷ []) in

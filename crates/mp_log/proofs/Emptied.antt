@@ -6,7 +6,7 @@ use Rattle.std.specs.Prelude.{slice_get}
 use Rattle.std.proofs.lemmas.Bool.{eqb-true, eq-eqb}
 use Rattle.mp_cells.specs.declared.records.Mtr.{Mtr}
 use Rattle.mp_outside.specs.Disks.{Torn, Cut}
-use Rattle.mp_log.specs.Logs.{open_gate, log_text, IsText}
+use Rattle.mp_log.specs.Logs.{open_gate, batches_text, IsText}
 
 -- a front of a file that begins with a closed gate
 pub front_empty : (file c : List ℕ) → IsText [] file → Cut 1 file c → IsText [] c
@@ -30,11 +30,11 @@ begins (first ∷ rest) byte h test =
     record { gate = first; rest = rest; closed = λ e. absurd (false≢true (sym (ap not (eq-eqb byte 165 (sym same ∙ e))) ∙ test)); whole = refl }
 
 -- a log that doesn't begin with a closed gate has a batch
-some_batch : (batches : List (List Mtr)) (file : List ℕ) → IsText batches file → (IsText [] file → ⊥) → (rest : List ℕ) × (log_text batches ≡ open_gate ∷ rest)
+some_batch : (batches : List (List Mtr)) (file : List ℕ) → IsText batches file → (IsText [] file → ⊥) → (rest : List ℕ) × (batches_text batches ≡ open_gate ∷ rest)
 some_batch [] file text open_first = absurd (open_first text)
 some_batch (batch ∷ batches) file text open_first = (_, refl)
 
-open_of : (d rest : List ℕ) (batches : List (List Mtr)) → IsText batches d → log_text batches ≡ open_gate ∷ rest → (back : List ℕ) × (d ≡ open_gate ∷ back)
+open_of : (d rest : List ℕ) (batches : List (List Mtr)) → IsText batches d → batches_text batches ≡ open_gate ∷ rest → (back : List ℕ) × (d ≡ open_gate ∷ back)
 open_of d rest batches text h = (rest ++ text.gate ∷ text.rest, text.whole ∙ ap (λ (x : List ℕ). x ++ text.gate ∷ text.rest) h)
 
 -- the first gate is torn

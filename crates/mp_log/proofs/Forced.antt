@@ -9,11 +9,17 @@ use Rattle.mp_redo.specs.Spelling.{mtr_bytes}
 use Rattle.mp_redo.proofs.Puts.{mtr_length}
 use Rattle.mp_outside.specs.Disks.{Follows, Only}
 use Rattle.mp_gated.specs.Gates.{BodyTorn, gated, Gating}
-use Rattle.mp_log.specs.Logs.{batch_bytes, batch_text, log_text, mtrs_of, last_after, with_batch, IsText, AreLogged, IsBatch, HoldsOnly, HoldsEither}
-use Rattle.mp_log.specs.Tails.{TailView, Stands}
+use Rattle.mp_log.specs.Logs.{batch_bytes, batch_text, batches_text, mtrs_of, last_after, with_batch, IsText, AreLogged, IsBatch, HoldsOnly, HoldsEither}
+use Rattle.mp_log.specs.Tails.{TailView, LogStands}
 use Rattle.mp_log.proofs.Texts.{body_of, body_torn, gate_torn, gate_opened, gate_within, log_text_more}
 use mathlib.Core.Logic.{◌⊎◌}
 use Rattle.std.proofs.Common.{inl, inr}
+
+-- the bytes behind a gate: a count of four bytes, and a closed gate
+pub body_length : (bytes body : List ℕ) → body ≡ little_bytes 4 (length bytes) ++ (bytes ++ 0 ∷ []) → length body ≡ 5 + length bytes
+body_length bytes body is =
+    let head : length (little_bytes 4 (length bytes)) ≡ 4 = refl in
+    omega (arith, ap length is, head, length-append (little_bytes 4 (length bytes)) (bytes ++ 0 ∷ []), length-append bytes (0 ∷ []))
 
 -- nothing was appended
 pub none_pending : (pending : List Mtr) → batch_bytes pending ≡ [] → pending ≡ []
@@ -37,7 +43,7 @@ mtrs_same batches pending =
 abbrev pub moved : TailView → TailView
 moved tail = record tail { place = tail.place + (5 + length tail.bytes); bytes = [] }
 
-module _ (batches : List (List Mtr)) (pending : List Mtr) (tail : TailView) (seen : List ℕ) (image : List ℕ → Type 0) (stands : Stands batches pending tail seen image) where
+module _ (batches : List (List Mtr)) (pending : List Mtr) (tail : TailView) (seen : List ℕ) (image : List ℕ → Type 0) (stands : LogStands batches pending tail seen image) where
   -- the body of what is appended
   body_is : (body : List ℕ) → body ≡ little_bytes 4 (length tail.bytes) ++ (tail.bytes ++ 0 ∷ []) → body ≡ body_of pending
   body_is body h = h ∙ ap (λ (bytes : List ℕ). little_bytes 4 (length bytes) ++ (bytes ++ 0 ∷ [])) stands.bytes
@@ -51,7 +57,7 @@ module _ (batches : List (List Mtr)) (pending : List Mtr) (tail : TailView) (see
   -- what a crash may leave, in each case
   pub either : (place : ℕ) (body : List ℕ) (after : List ℕ → Type 0) → place ≡ tail.place → body ≡ little_bytes 4 (length tail.bytes) ++ (tail.bytes ++ 0 ∷ []) → 1 ≤ length tail.bytes → Gating place body seen image after → HoldsEither batches (with_batch batches pending) after
   either place body after is_place is_body some_bytes gating c left =
-      let at : place ≡ length (log_text batches) = is_place ∙ stands.place in
+      let at : place ≡ length (batches_text batches) = is_place ∙ stands.place in
       elim (gating c left) [
         | inl torn ↦ inl (body_torn batches place body torn.0 c at (stands.images torn.0 torn.1) torn.2)
         | inr torn ↦ opened c (gate_torn batches pending place seen c at stands.reads (subst (λ (b : List ℕ). Rattle.mp_gated.specs.Gates.GateTorn place b seen c) (body_is body is_body) torn))
@@ -69,17 +75,17 @@ module _ (batches : List (List Mtr)) (pending : List Mtr) (tail : TailView) (see
 
   -- a log after a good force
   pub forced : (place : ℕ) (body : List ℕ) (new : TailView) (now : List ℕ) (after : List ℕ → Type 0) → place ≡ tail.place → body ≡ little_bytes 4 (length tail.bytes) ++ (tail.bytes ++ 0 ∷ []) → 1 ≤ length tail.bytes → length tail.bytes ≤ 65536
-      → new ≡ moved tail → now ≡ gated place body seen → Only (gated place body seen) after → Stands (with_batch batches pending) [] new now after
+      → new ≡ moved tail → now ≡ gated place body seen → Only (gated place body seen) after → LogStands (with_batch batches pending) [] new now after
   forced place body new now after is_place is_body some_bytes most is_new is_now only =
-      let at : place ≡ length (log_text batches) = is_place ∙ stands.place in
+      let at : place ≡ length (batches_text batches) = is_place ∙ stands.place in
       let text : IsText (batches ++ pending ∷ []) (gated place body seen) = subst (λ (b : List ℕ). IsText (batches ++ pending ∷ []) (gated place b seen)) (sym (body_is body is_body)) (gate_opened batches pending place seen at stands.reads) in
       let count : length tail.bytes ≡ length (batch_bytes pending) = ap length stands.bytes in
       let head : length (little_bytes 4 (length (batch_bytes pending))) ≡ 4 = refl in
-      let longer : tail.place + (5 + length tail.bytes) ≡ length (log_text (batches ++ pending ∷ [])) =
-      omega (arith, stands.place, count, head, ap length (log_text_more batches pending), length-append (log_text batches) (batch_text pending), length-append (little_bytes 4 (length (batch_bytes pending))) (batch_bytes pending)) in
+      let longer : tail.place + (5 + length tail.bytes) ≡ length (batches_text (batches ++ pending ∷ [])) =
+      omega (arith, stands.place, count, head, ap length (log_text_more batches pending), length-append (batches_text batches) (batch_text pending), length-append (little_bytes 4 (length (batch_bytes pending))) (batch_bytes pending)) in
       let batch : IsBatch pending = (some_pending pending (omega (arith, count, some_bytes)), omega (arith, count, most)) in
       let same = mtrs_same batches pending in
-      let here : Stands (batches ++ pending ∷ []) [] (moved tail) (gated place body seen) after = record {
+      let here : LogStands (batches ++ pending ∷ []) [] (moved tail) (gated place body seen) after = record {
         reads = text;
         images = λ c left. subst (IsText (batches ++ pending ∷ [])) (sym (only c left)) text;
         mtrs = subst (AreLogged tail.node) (sym same) stands.mtrs;
@@ -88,12 +94,12 @@ module _ (batches : List (List Mtr)) (pending : List Mtr) (tail : TailView) (see
         last = stands.last ∙ ap (last_after 0) (sym same);
         bytes = refl;
       } in
-      subst (λ (bs : List (List Mtr)). Stands bs [] new now after) (sym (some some_bytes))
-      (subst (λ (t : TailView). Stands (batches ++ pending ∷ []) [] t now after) (sym is_new)
-      (subst (λ (s : List ℕ). Stands (batches ++ pending ∷ []) [] (moved tail) s after) (sym is_now) here))
+      subst (λ (bs : List (List Mtr)). LogStands bs [] new now after) (sym (some some_bytes))
+      (subst (λ (t : TailView). LogStands (batches ++ pending ∷ []) [] t now after) (sym is_new)
+      (subst (λ (s : List ℕ). LogStands (batches ++ pending ∷ []) [] (moved tail) s after) (sym is_now) here))
 
   -- a force with nothing appended
-  pub nothing : tail.bytes ≡ [] → Stands (with_batch batches pending) [] tail seen image
+  pub nothing : tail.bytes ≡ [] → LogStands (with_batch batches pending) [] tail seen image
   nothing none =
       let e : pending ≡ [] = none_pending pending (sym stands.bytes ∙ none) in
-      subst (λ (p : List Mtr). Stands (with_batch batches p) [] tail seen image) (sym e) (subst (λ (p : List Mtr). Stands batches p tail seen image) e stands)
+      subst (λ (p : List Mtr). LogStands (with_batch batches p) [] tail seen image) (sym e) (subst (λ (p : List Mtr). LogStands batches p tail seen image) e stands)

@@ -9,22 +9,24 @@ use Rattle.mp_redo.specs.Spelling.{mtr_bytes}
 use Rattle.mp_redo.specs.Reading.{and_then, field}
 use Rattle.mp_redo.proofs.Fields.{both_read}
 use Rattle.mp_redo.proofs.Puts.{mtr_length}
+use Rattle.mp_log.specs.declared.batches.LogPlace.{LogPlace}
 use Rattle.mp_log.specs.declared.refusals.LogRefusal.{LogRefusal}
 use Rattle.mp_log.specs.declared.refusals.LogRefusal.TheVariants as refusals
-use Rattle.mp_log.specs.Logs.{open_gate, batch_bytes, log_text, mtrs_of, last_after, IsOf, IsLog, IsText}
+use Rattle.mp_log.specs.Logs.{open_gate, batch_bytes, batches_text, mtrs_of, last_after, IsOf, IsLog, IsText}
 use Rattle.mp_log.proofs.ReadAgain.{log_again}
-use Rattle.mp_log.specs.Reading.{count_at, open_at, batch_behind, next_at, batches_from, batches_at, IsNext}
+use Rattle.mp_log.specs.Reading.{count_at, open_at, batch_behind, next_at, batches_from, batches_at, AreBefore, IsNextBatch}
 use Rattle.mp_log.specs.Readers.{given_from, given_at, log_mtrs, fresh_reader, ReaderView, Remains, IsLoaded, LoadsNext, Fills, Advances, TakesNext, GivesNext}
-use Rattle.mp_log.specs.declared.readers.State.TheVariants.{Refused}
+use Rattle.mp_log.specs.declared.readers.State.TheVariants.{Ended, Refused}
 use Rattle.mp_log.proofs.NextBatch.{is_opened, is_closed}
 use Rattle.mp_log.proofs.Forced.{none_pending}
+use Rattle.mp_log.proofs.Opened.{none_before, before_more, before_end}
 
 all_mtrs : (node : ℕ) (mtrs : List Mtr) → AllByRecursion (IsOf node) mtrs → AllByRecursion IsMtr mtrs
 all_mtrs node [] h = tt
 all_mtrs node (mtr ∷ mtrs) h = (h.0.0, all_mtrs node mtrs h.1)
 
 -- the batch that was read, and its bytes
-pub is_loaded : (file before after : List ℕ) (old new : ReaderView) (count end : ℕ) → IsNext old.place.node old.place.last file old.place.gate before after count end → new.bytes ≡ take count (drop (old.place.gate + 5) file)
+pub is_loaded : (file before after : List ℕ) (old new : ReaderView) (count end : ℕ) → IsNextBatch old.place.node old.place.last file old.place.gate before after count end → new.bytes ≡ take count (drop (old.place.gate + 5) file)
     → new.place ≡ record { node = old.place.node; gate = old.place.gate + (5 + count); last = end } → IsLoaded file old new
 is_loaded file before after old new count end next bytes place =
     let batch = next.batch in
@@ -38,6 +40,8 @@ is_loaded file before after old new count end next bytes place =
       sound = all_mtrs old.place.node batch next.each;
       bytes = bytes ∙ ap (take count) whole ∙ take_at (batch_bytes batch) more count (sym next.count_is);
       place = place ∙ ap (λ (l : ℕ). record { node = old.place.node; gate = old.place.gate + (5 + count); last = l }) next.end_is;
+      before = λ so. subst (λ (p : LogPlace). AreBefore p.node p.last p.gate file) (sym place)
+          (before_more old.place.node old.place.last old.place.gate count end (old.place.gate + (5 + count)) file before after so next refl);
     }
 
 -- a gate that was read lies within the file
@@ -80,8 +84,8 @@ module _ (file : List ℕ) (mtrs : List Mtr) (fault : Option ℕ) (old : ReaderV
       by_fuel (suc fuel) e =
           let more = given_at fuel old.place.node (last_after old.place.last loaded.batch) file (old.place.gate + (5 + loaded.count)) in
           let all : given remains.fuel ≡ (loaded.batch ++ more.0, more.1) = ap given e ∙ ap (given_from old.place.last old.place.gate (λ l g. given_at fuel old.place.node l file g)) loaded.is in
-          let same : given_at fuel new.place.node new.place.last file new.place.gate ≡ more = ap (λ (p : Rattle.mp_log.specs.declared.batches.LogPlace.LogPlace). given_at fuel p.node p.last file p.gate) loaded.place in
-          let gate_is : new.place.gate ≡ old.place.gate + (5 + loaded.count) = ap (λ (p : Rattle.mp_log.specs.declared.batches.LogPlace.LogPlace). p.gate) loaded.place in (
+          let same : given_at fuel new.place.node new.place.last file new.place.gate ≡ more = ap (λ (p : LogPlace). given_at fuel p.node p.last file p.gate) loaded.place in
+          let gate_is : new.place.gate ≡ old.place.gate + (5 + loaded.count) = ap (λ (p : LogPlace). p.gate) loaded.place in (
             record {
               reading = state ∙ remains.reading;
               fuel = fuel;
@@ -89,6 +93,7 @@ module _ (file : List ℕ) (mtrs : List Mtr) (fault : Option ℕ) (old : ReaderV
               batch = loaded.batch;
               bytes = loaded.bytes;
               sound = loaded.sound;
+              before = loaded.before remains.before;
               mtrs_are = left ∙ ap (λ (p : List Mtr × Option ℕ). p.0) all ∙ ap (λ (p : List Mtr × Option ℕ). loaded.batch ++ p.0) (sym same);
               fault_is = remains.fault_is ∙ ap (λ (p : List Mtr × Option ℕ). p.1) all ∙ ap (λ (p : List Mtr × Option ℕ). p.1) (sym same);
             },
@@ -138,8 +143,8 @@ takes file mtrs fault old new given remains some place state taken = by_batch re
         let sound = subst (AllByRecursion IsMtr) e remains.sound in
         let t = taken mtr batch sound.0 (remains.bytes ∙ ap batch_bytes e) in
         let more = given_at remains.fuel old.place.node old.place.last file old.place.gate in
-        let same : given_at remains.fuel new.place.node new.place.last file new.place.gate ≡ more = ap (λ (p : Rattle.mp_log.specs.declared.batches.LogPlace.LogPlace). given_at remains.fuel p.node p.last file p.gate) place in
-        let gate_is : new.place.gate ≡ old.place.gate = ap (λ (p : Rattle.mp_log.specs.declared.batches.LogPlace.LogPlace). p.gate) place in (
+        let same : given_at remains.fuel new.place.node new.place.last file new.place.gate ≡ more = ap (λ (p : LogPlace). given_at remains.fuel p.node p.last file p.gate) place in
+        let gate_is : new.place.gate ≡ old.place.gate = ap (λ (p : LogPlace). p.gate) place in (
           batch ++ more.0,
           remains.mtrs_are ∙ ap (λ (b : List Mtr). b ++ more.0) e ∙ ap (λ (m : Mtr). m ∷ (batch ++ more.0)) (sym t.0),
           record {
@@ -149,6 +154,7 @@ takes file mtrs fault old new given remains some place state taken = by_batch re
             batch = batch;
             bytes = t.1;
             sound = sound.1;
+            before = subst (λ (p : LogPlace). AreBefore p.node p.last p.gate file) (sym place) remains.before;
             mtrs_are = ap (λ (p : List Mtr × Option ℕ). batch ++ p.0) (sym same);
             fault_is = remains.fault_is ∙ ap (λ (p : List Mtr × Option ℕ). p.1) (sym same);
           },
@@ -164,6 +170,17 @@ not_taken file mtrs fault old new refusal remains some taken = by_batch remains.
     by_batch (mtr ∷ batch) e refusals.Disk t = tt
     by_batch (mtr ∷ batch) e refusals.Memory t = tt
 
+-- where nothing is left and the gate is closed, the file is the text of batches
+pub whole_read : (file : List ℕ) (mtrs : List Mtr) (fault : Option ℕ) (reader : ReaderView) → Remains reader file mtrs fault
+    → next_at reader.place.node reader.place.last file reader.place.gate ≡ Ok None → (batches : List (List Mtr)) × IsLog reader.place.node batches × IsText batches file
+whole_read file mtrs fault reader remains closed =
+    let so = remains.before in
+    (so.batches, so.log, before_end reader.place.node reader.place.last reader.place.gate file so closed)
+
+-- a reader that has ended has nothing that remains
+pub not_ended : (file : List ℕ) (mtrs : List Mtr) (fault : Option ℕ) (reader : ReaderView) → Remains reader file mtrs fault → reader.state ≡ Ended → ⊥
+not_ended file mtrs fault reader remains ended = let both = sym remains.reading ∙ ended in cc
+
 -- a refusal is kept
 pub refused_so : (file : List ℕ) (mtrs : List Mtr) (fault : Option ℕ) (before new : ReaderView) (refusal : LogRefusal) → Advances file mtrs fault before (Err refusal) → new.state ≡ Refused refusal → GivesNext file mtrs fault new (Err refusal)
 refused_so file mtrs fault before new (refusals.Fault place) h state = (h.0, h.1, state)
@@ -172,7 +189,7 @@ refused_so file mtrs fault before new refusals.Memory h state = state
 
 -- ---- a whole log
 pub fresh_remains : (node : ℕ) (file : List ℕ) → Remains (fresh_reader node) file (log_mtrs node file).0 (log_mtrs node file).1
-fresh_remains node file = record { reading = refl; fuel = length file + 1; enough = omega arith; batch = []; bytes = refl; sound = tt; mtrs_are = refl; fault_is = refl }
+fresh_remains node file = record { reading = refl; fuel = length file + 1; enough = omega arith; batch = []; bytes = refl; sound = tt; before = none_before node file; mtrs_are = refl; fault_is = refl }
 
 -- batches that are read give their mtrs
 given_all : (fuel node last : ℕ) (file : List ℕ) (gate : ℕ) (found : List (List Mtr) × ℕ) → batches_at fuel node last file gate ≡ Ok found → given_at fuel node last file gate ≡ (mtrs_of found.0, None)
@@ -193,4 +210,4 @@ given_all (suc fuel) node last file gate found h =
         ap (given_from last gate (λ l g. given_at fuel node l file g)) e ∙ ap (λ (p : List Mtr × Option ℕ). (next.0 ++ p.0, p.1)) (more next b.0 b.1) ∙ ap (λ (f : List (List Mtr) × ℕ). (mtrs_of f.0, None)) same
 
 pub text_given : (node : ℕ) (batches : List (List Mtr)) (file : List ℕ) → IsLog node batches → IsText batches file → log_mtrs node file ≡ (mtrs_of batches, None)
-text_given node batches file log text = given_all (length file + 1) node 0 file 0 (batches, length (log_text batches)) (log_again node batches file log text)
+text_given node batches file log text = given_all (length file + 1) node 0 file 0 (batches, length (batches_text batches)) (log_again node batches file log text)

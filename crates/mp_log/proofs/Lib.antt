@@ -9,3 +9,6 @@ pub mod NextBatch
 pub mod Opened
 pub mod ReadAgain
 pub mod Given
+mod Tied
+pub mod ReadWhole
+mod KeptLog

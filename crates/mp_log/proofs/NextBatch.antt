@@ -5,8 +5,8 @@ use Rattle.std.proofs.lemmas.List.{append_assoc, length-drop, length-take-le, ta
 use Rattle.byteorder.specs.Endian.{little_bytes}
 use Rattle.mp_redo.specs.Reading.{Read, and_then}
 use Rattle.mp_redo.proofs.Fields.{both_read, both_again, field_read}
-use Rattle.mp_log.specs.Logs.{open_gate, most_bytes, batch_bytes}
-use Rattle.mp_log.specs.Reading.{gate_at, is_count, count_at, open_at, mtrs_at, batch_at, batch_behind, AreChecked, IsNext}
+use Rattle.mp_log.specs.Logs.{open_gate, most_batch_bytes, batch_bytes}
+use Rattle.mp_log.specs.Reading.{gate_at, is_batch_count, count_at, open_at, mtrs_at, batch_at, batch_behind, AreChecked, IsNextBatch}
 use Rattle.mp_log.proofs.Forced.{some_pending}
 
 -- the byte at a place and those behind it
@@ -44,14 +44,14 @@ is_closed file gate h = let a = open_read file gate None h in by_test a.0 a.1 a.
     by_test true g h = absurd (none_read (count_at file gate) h)
     by_test false g h = gate_read file gate false g
 
-pub next_is : (node last gate count end size : ℕ) (file bytes old new : List ℕ) → size ≡ length file → open_at file gate ≡ Ok (Some count) → take 4 (drop (gate + 1) file) ≡ little_bytes 4 count → is_count size gate count ≡ true
-    → bytes ≡ take count (drop (gate + 5) file) → AreChecked (mtrs_at (length bytes) node last bytes (gate + 5)) bytes node last old new end → IsNext node last file gate old new count end
+pub next_is : (node last gate count end size : ℕ) (file bytes old new : List ℕ) → size ≡ length file → open_at file gate ≡ Ok (Some count) → take 4 (drop (gate + 1) file) ≡ little_bytes 4 count → is_batch_count size gate count ≡ true
+    → bytes ≡ take count (drop (gate + 5) file) → AreChecked (mtrs_at (length bytes) node last bytes (gate + 5)) bytes node last old new end → IsNextBatch node last file gate old new count end
 next_is node last gate count end size file bytes old new same is_open head fits is_bytes checked =
     let batch = checked.mtrs in
-    let a = and_parts (nat_le 1 count && nat_le count most_bytes) (nat_le (gate + (6 + count)) size) fits in
-    let b = and_parts (nat_le 1 count) (nat_le count most_bytes) a.0 in
+    let a = and_parts (nat_le 1 count && nat_le count most_batch_bytes) (nat_le (gate + (6 + count)) size) fits in
+    let b = and_parts (nat_le 1 count) (nat_le count most_batch_bytes) a.0 in
     let least : 1 ≤ count = leb-true 1 count b.0 in
-    let most : count ≤ most_bytes = leb-true count most_bytes b.1 in
+    let most : count ≤ most_batch_bytes = leb-true count most_batch_bytes b.1 in
     let within : gate + (6 + count) ≤ size = leb-true (gate + (6 + count)) size a.1 in
     let left : count ≤ length (drop (gate + 5) file) = omega (arith, length-drop (gate + 5) file, within, same) in
     let size_is : length bytes ≡ count = ap length is_bytes ∙ length-take-le count (drop (gate + 5) file) left in

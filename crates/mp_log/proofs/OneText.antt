@@ -10,7 +10,7 @@ use Rattle.mp_redo.specs.Spelling.{mtr_bytes}
 use Rattle.mp_redo.specs.Reading.{mtr_at}
 use Rattle.mp_redo.proofs.MtrSpelling.{mtr_again}
 use Rattle.mp_redo.proofs.Puts.{mtr_length}
-use Rattle.mp_log.specs.Logs.{open_gate, batch_bytes, batch_text, log_text, mtrs_of, IsText, IsOf, IsBatch, IsLog}
+use Rattle.mp_log.specs.Logs.{open_gate, batch_bytes, batch_text, batches_text, mtrs_of, IsText, IsOf, IsBatch, IsLog}
 
 -- two mtrs at the front of the same bytes
 pub same_mtr : (a b : Mtr) (r s : List ℕ) → IsMtr a → IsMtr b → mtr_bytes a ++ r ≡ mtr_bytes b ++ s → (a ≡ b) × (r ≡ s)
@@ -56,18 +56,18 @@ all_right P [] ys h = h
 all_right P (x ∷ xs) ys h = all_right P xs ys h.1
 
 texts_same : (node other : ℕ) (a b : List (List Mtr)) (g k : ℕ) (r s : List ℕ) → AllByRecursion (IsOf node) (mtrs_of a) → AllByRecursion (IsOf other) (mtrs_of b) → AllByRecursion IsBatch a → AllByRecursion IsBatch b
-    → (g ≡ open_gate → ⊥) → (k ≡ open_gate → ⊥) → log_text a ++ g ∷ r ≡ log_text b ++ k ∷ s → a ≡ b
+    → (g ≡ open_gate → ⊥) → (k ≡ open_gate → ⊥) → batches_text a ++ g ∷ r ≡ batches_text b ++ k ∷ s → a ≡ b
 texts_same node other [] [] g k r s ea eb sa sb cg ck h = refl
 texts_same node other [] (b ∷ bs) g k r s ea eb sa sb cg ck h = absurd (cg (heads_same g open_gate _ _ h))
 texts_same node other (a ∷ as_) [] g k r s ea eb sa sb cg ck h = absurd (ck (sym (heads_same open_gate k _ _ h)))
 texts_same node other (a ∷ as_) (b ∷ bs) g k r s ea eb sa sb cg ck h =
-    let inner : (little_bytes 4 (length (batch_bytes a)) ++ batch_bytes a) ++ (log_text as_ ++ g ∷ r) ≡ (little_bytes 4 (length (batch_bytes b)) ++ batch_bytes b) ++ (log_text bs ++ k ∷ s) =
-    tails_same open_gate open_gate _ _ (sym (append_assoc (batch_text a) (log_text as_) (g ∷ r)) ∙ h ∙ append_assoc (batch_text b) (log_text bs) (k ∷ s)) in
-    let flat : little_bytes 4 (length (batch_bytes a)) ++ (batch_bytes a ++ (log_text as_ ++ g ∷ r)) ≡ little_bytes 4 (length (batch_bytes b)) ++ (batch_bytes b ++ (log_text bs ++ k ∷ s)) =
-    sym (append_assoc (little_bytes 4 (length (batch_bytes a))) (batch_bytes a) (log_text as_ ++ g ∷ r)) ∙ inner ∙ append_assoc (little_bytes 4 (length (batch_bytes b))) (batch_bytes b) (log_text bs ++ k ∷ s) in
-    let size = counts_same a b (batch_bytes a ++ (log_text as_ ++ g ∷ r)) (batch_bytes b ++ (log_text bs ++ k ∷ s)) sa.0.1 sb.0.1 flat in
-    let behind : batch_bytes a ++ (log_text as_ ++ g ∷ r) ≡ batch_bytes b ++ (log_text bs ++ k ∷ s) = ap (drop 4) flat in
-    let first = same_batch node other a b (log_text as_ ++ g ∷ r) (log_text bs ++ k ∷ s) (all_left (IsOf node) a (mtrs_of as_) ea) (all_left (IsOf other) b (mtrs_of bs) eb) size behind in
+    let inner : (little_bytes 4 (length (batch_bytes a)) ++ batch_bytes a) ++ (batches_text as_ ++ g ∷ r) ≡ (little_bytes 4 (length (batch_bytes b)) ++ batch_bytes b) ++ (batches_text bs ++ k ∷ s) =
+    tails_same open_gate open_gate _ _ (sym (append_assoc (batch_text a) (batches_text as_) (g ∷ r)) ∙ h ∙ append_assoc (batch_text b) (batches_text bs) (k ∷ s)) in
+    let flat : little_bytes 4 (length (batch_bytes a)) ++ (batch_bytes a ++ (batches_text as_ ++ g ∷ r)) ≡ little_bytes 4 (length (batch_bytes b)) ++ (batch_bytes b ++ (batches_text bs ++ k ∷ s)) =
+    sym (append_assoc (little_bytes 4 (length (batch_bytes a))) (batch_bytes a) (batches_text as_ ++ g ∷ r)) ∙ inner ∙ append_assoc (little_bytes 4 (length (batch_bytes b))) (batch_bytes b) (batches_text bs ++ k ∷ s) in
+    let size = counts_same a b (batch_bytes a ++ (batches_text as_ ++ g ∷ r)) (batch_bytes b ++ (batches_text bs ++ k ∷ s)) sa.0.1 sb.0.1 flat in
+    let behind : batch_bytes a ++ (batches_text as_ ++ g ∷ r) ≡ batch_bytes b ++ (batches_text bs ++ k ∷ s) = ap (drop 4) flat in
+    let first = same_batch node other a b (batches_text as_ ++ g ∷ r) (batches_text bs ++ k ∷ s) (all_left (IsOf node) a (mtrs_of as_) ea) (all_left (IsOf other) b (mtrs_of bs) eb) size behind in
     let rest = texts_same node other as_ bs g k r s (all_right (IsOf node) a (mtrs_of as_) ea) (all_right (IsOf other) b (mtrs_of bs) eb) sa.1 sb.1 cg ck first.1 in
     cons_same a b as_ bs first.0 rest
   where

@@ -14,11 +14,11 @@ use Rattle.mp_redo.specs.Reading.{and_then, field, mtr_at}
 use Rattle.mp_redo.proofs.Fields.{both_again, field_again}
 use Rattle.mp_redo.proofs.MtrSpelling.{mtr_again}
 use Rattle.mp_redo.proofs.Puts.{mtr_length}
-use Rattle.mp_log.specs.Logs.{open_gate, most_bytes, batch_bytes, batch_text, log_text, mtrs_of, last_after, IsOf, IsBatch, IsLog, IsText}
-use Rattle.mp_log.specs.Reading.{gate_at, is_count, count_at, open_at, from_place, mtrs_at, batch_at, batch_behind, next_at, batches_from, batches_at, log_at}
+use Rattle.mp_log.specs.Logs.{open_gate, most_batch_bytes, batch_bytes, batch_text, batches_text, mtrs_of, last_after, IsOf, IsBatch, IsLog, IsText}
+use Rattle.mp_log.specs.Reading.{gate_at, is_batch_count, count_at, open_at, from_place, mtrs_at, batch_at, batch_behind, next_at, batches_from, batches_at, log_at}
 use Rattle.mp_log.specs.declared.refusals.LogRefusal.{LogRefusal}
 use Rattle.mp_log.specs.declared.refusals.LogRefusal.TheVariants.{Fault}
-use Rattle.mp_log.specs.Opening.{Opens}
+use Rattle.mp_log.specs.Opening.{OpensLog}
 use Rattle.mp_log.proofs.Appended.{llsn_of}
 use Rattle.mp_log.proofs.Checked.{step}
 
@@ -53,7 +53,7 @@ gate_again file gate byte rest h =
     let here : get_or file gate 0 ≡ byte = ap (λ (n : ℕ). get_or file n 0) (sym zero_more) ∙ sym (get_or-drop gate file 0 0) ∙ ap (λ (xs : List ℕ). get_or xs 0 0) h in
     field_again gate (nat_lt gate (length file)) (get_or file gate 0 == open_gate) (byte == open_gate) (lt-ltb gate (length file) within) (ap (λ (b : ℕ). b == open_gate) here)
 
-count_again : (file : List ℕ) (gate count : ℕ) (rest : List ℕ) → drop (gate + 1) file ≡ little_bytes 4 count ++ rest → 1 ≤ count → count ≤ most_bytes → count + 1 ≤ length rest → count_at file gate ≡ Ok count
+count_again : (file : List ℕ) (gate count : ℕ) (rest : List ℕ) → drop (gate + 1) file ≡ little_bytes 4 count ++ rest → 1 ≤ count → count ≤ most_batch_bytes → count + 1 ≤ length rest → count_at file gate ≡ Ok count
 unfolding number_at
 count_again file gate count rest h least most room =
     let head : length (little_bytes 4 count) ≡ 4 = refl in
@@ -62,8 +62,8 @@ count_again file gate count rest h least most room =
     let number : little_number 4 (drop (gate + 1) file) ≡ count = ap (little_number 4) h ∙ little_number-reads_back 4 count rest (omega (arith, most)) in
     let whole : nat_le (gate + 5) (length file) ≡ true = le-leb (gate + 5) (length file) (omega (arith, long, parts, head)) in
     let ends : nat_le (gate + (6 + count)) (length file) ≡ true = le-leb (gate + (6 + count)) (length file) (omega (arith, long, parts, head, room)) in
-    let fits : is_count (length file) gate count ≡ true = and_from _ _ (and_from _ _ (le-leb 1 count least) (le-leb count most_bytes most)) ends in
-    field_again (gate + 1) _ (little_number 4 (drop (gate + 1) file)) count (and_from _ _ whole (ap (is_count (length file) gate) number ∙ fits)) number
+    let fits : is_batch_count (length file) gate count ≡ true = and_from _ _ (and_from _ _ (le-leb 1 count least) (le-leb count most_batch_bytes most)) ends in
+    field_again (gate + 1) _ (little_number 4 (drop (gate + 1) file)) count (and_from _ _ whole (ap (is_batch_count (length file) gate) number ∙ fits)) number
 
 -- the next batch at a place
 next_again : (node last gate : ℕ) (file : List ℕ) (batch : List Mtr) (rest : List ℕ) → drop gate file ≡ batch_text batch ++ rest → 1 ≤ length rest → IsBatch batch → AllByRecursion (IsOf node) batch → rises llsn_of (last + 1) (2 ^ 62) batch ≡ true
@@ -104,8 +104,8 @@ rises_parts low (x ∷ xs) ys h =
     let rest = rises_parts x.llsn xs ys a.1 in
     (and_from _ _ a.0 rest.0, rest.1)
 
-pub batches_again : (fuel node last gate : ℕ) (file : List ℕ) (batches : List (List Mtr)) (byte : ℕ) (rest : List ℕ) → length batches < fuel → drop gate file ≡ log_text batches ++ byte ∷ rest → byte ≢ open_gate
-    → AllByRecursion IsBatch batches → AllByRecursion (IsOf node) (mtrs_of batches) → rises llsn_of (last + 1) (2 ^ 62) (mtrs_of batches) ≡ true → batches_at fuel node last file gate ≡ Ok (batches, gate + length (log_text batches))
+pub batches_again : (fuel node last gate : ℕ) (file : List ℕ) (batches : List (List Mtr)) (byte : ℕ) (rest : List ℕ) → length batches < fuel → drop gate file ≡ batches_text batches ++ byte ∷ rest → byte ≢ open_gate
+    → AllByRecursion IsBatch batches → AllByRecursion (IsOf node) (mtrs_of batches) → rises llsn_of (last + 1) (2 ^ 62) (mtrs_of batches) ≡ true → batches_at fuel node last file gate ≡ Ok (batches, gate + length (batches_text batches))
 batches_again zero node last gate file batches byte rest enough h closed sizes each rising = absurd (omega arith)
 batches_again (suc fuel) node last gate file [] byte rest enough h closed sizes each rising =
     let test : (byte == open_gate) ≡ false = grind (arith, nat_tests, closed) in
@@ -116,32 +116,32 @@ batches_again (suc fuel) node last gate file [] byte rest enough h closed sizes 
 batches_again (suc fuel) node last gate file (batch ∷ batches) byte rest enough h closed sizes each rising =
     let n = length (batch_bytes batch) in
     let r = rises_parts last batch (mtrs_of batches) rising in
-    let more = log_text batches ++ byte ∷ rest in
-    let front : drop gate file ≡ batch_text batch ++ more = h ∙ append_assoc (batch_text batch) (log_text batches) (byte ∷ rest) in
-    let some : 1 ≤ length more = omega (arith, length-append (log_text batches) (byte ∷ rest)) in
+    let more = batches_text batches ++ byte ∷ rest in
+    let front : drop gate file ≡ batch_text batch ++ more = h ∙ append_assoc (batch_text batch) (batches_text batches) (byte ∷ rest) in
+    let some : 1 ≤ length more = omega (arith, length-append (batches_text batches) (byte ∷ rest)) in
     let next = next_again node last gate file batch more front some sizes.0 (all_left (IsOf node) batch (mtrs_of batches) each) r.0 in
     let head : length (little_bytes 4 n) ≡ 4 = refl in
     let size : length (batch_text batch) ≡ 5 + n = omega (arith, head, length-append (little_bytes 4 n) (batch_bytes batch)) in
     let behind : drop (gate + (5 + n)) file ≡ more = sym (drop-drop (5 + n) gate file) ∙ ap (drop (5 + n)) front ∙ drop_at (batch_text batch) more (5 + n) size in
     let others = batches_again fuel node (last_after last batch) (gate + (5 + n)) file batches byte rest (omega (arith, enough)) behind closed sizes.1 (all_right (IsOf node) batch (mtrs_of batches) each) r.1 in
-    let end : gate + (5 + n) + length (log_text batches) ≡ gate + length (log_text (batch ∷ batches)) = omega (arith, size, length-append (batch_text batch) (log_text batches)) in
-    both_again (next_at node last file gate) (λ x. batches_from last gate (λ l g. batches_at fuel node l file g) x) (Some (batch, n)) (Ok (batch ∷ batches, gate + (5 + n) + length (log_text batches))) next
-    (both_again (batches_at fuel node (last_after last batch) file (gate + (5 + n))) (λ x. Ok (batch ∷ x.0, x.1)) (batches, gate + (5 + n) + length (log_text batches)) (Ok (batch ∷ batches, gate + (5 + n) + length (log_text batches))) others refl)
+    let end : gate + (5 + n) + length (batches_text batches) ≡ gate + length (batches_text (batch ∷ batches)) = omega (arith, size, length-append (batch_text batch) (batches_text batches)) in
+    both_again (next_at node last file gate) (λ x. batches_from last gate (λ l g. batches_at fuel node l file g) x) (Some (batch, n)) (Ok (batch ∷ batches, gate + (5 + n) + length (batches_text batches))) next
+    (both_again (batches_at fuel node (last_after last batch) file (gate + (5 + n))) (λ x. Ok (batch ∷ x.0, x.1)) (batches, gate + (5 + n) + length (batches_text batches)) (Ok (batch ∷ batches, gate + (5 + n) + length (batches_text batches))) others refl)
     ∙ ap (λ (g : ℕ). Ok (batch ∷ batches, g)) end
 
-count_batches : (batches : List (List Mtr)) → length batches ≤ length (log_text batches)
+count_batches : (batches : List (List Mtr)) → length batches ≤ length (batches_text batches)
 count_batches [] = omega arith
-count_batches (batch ∷ batches) = omega (arith, count_batches batches, length-append (batch_text batch) (log_text batches))
+count_batches (batch ∷ batches) = omega (arith, count_batches batches, length-append (batch_text batch) (batches_text batches))
 
-pub log_again : (node : ℕ) (batches : List (List Mtr)) (file : List ℕ) → IsLog node batches → IsText batches file → log_at node file ≡ Ok (batches, length (log_text batches))
+pub log_again : (node : ℕ) (batches : List (List Mtr)) (file : List ℕ) → IsLog node batches → IsText batches file → log_at node file ≡ Ok (batches, length (batches_text batches))
 log_again node batches file log text =
-    let long : length batches < length file + 1 = omega (arith, ap length text.whole, length-append (log_text batches) (text.gate ∷ text.rest), count_batches batches) in
-    let end : 0 + length (log_text batches) ≡ length (log_text batches) = omega arith in
+    let long : length batches < length file + 1 = omega (arith, ap length text.whole, length-append (batches_text batches) (text.gate ∷ text.rest), count_batches batches) in
+    let end : 0 + length (batches_text batches) ≡ length (batches_text batches) = omega arith in
     batches_again (length file + 1) node 0 0 file batches text.gate text.rest long text.whole text.closed log.sizes log.mtrs.each log.mtrs.rising ∙ ap (λ (n : ℕ). Ok (batches, n)) end
 
 -- so no fault is found in it
-pub no_fault : (node : ℕ) (batches : List (List Mtr)) (file seen : List ℕ) (image : List ℕ → Type 0) (refusal : LogRefusal) (place : ℕ) → IsLog node batches → IsText batches file → Opens node file seen image (Err refusal) → refusal ≡ Fault place → ⊥
+pub no_fault : (node : ℕ) (batches : List (List Mtr)) (file seen : List ℕ) (image : List ℕ → Type 0) (refusal : LogRefusal) (place : ℕ) → IsLog node batches → IsText batches file → OpensLog node file seen image (Err refusal) → refusal ≡ Fault place → ⊥
 no_fault node batches file seen image refusal place log text opens is_fault =
-    let fault : log_at node file ≡ Err place = subst (λ (r : LogRefusal). Opens node file seen image (Err r)) is_fault opens in
+    let fault : log_at node file ≡ Err place = subst (λ (r : LogRefusal). OpensLog node file seen image (Err r)) is_fault opens in
     let again = sym fault ∙ log_again node batches file log text in
     absurd cc

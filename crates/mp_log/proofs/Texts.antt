@@ -9,7 +9,7 @@ use Rattle.byteorder.specs.Endian.{little_bytes}
 use Rattle.mp_cells.specs.declared.records.Mtr.{Mtr}
 use Rattle.mp_outside.specs.Disks.{written}
 use Rattle.mp_gated.specs.Gates.{BodyTorn, GateTorn, gated}
-use Rattle.mp_log.specs.Logs.{open_gate, batch_bytes, batch_text, log_text, IsText}
+use Rattle.mp_log.specs.Logs.{open_gate, batch_bytes, batch_text, batches_text, IsText}
 
 -- the bytes behind a gate, as they are written
 abbrev pub body_of : List Mtr → List ℕ
@@ -37,9 +37,9 @@ min_left : (a b : ℕ) → a ≤ b → min a b ≡ a
 min_left a b h = omega arith
 
 -- the body's part alone is torn: the gate stays closed
-pub body_torn : (batches : List (List Mtr)) (place : ℕ) (body d c : List ℕ) → place ≡ length (log_text batches) → IsText batches d → BodyTorn place body d c → IsText batches c
+pub body_torn : (batches : List (List Mtr)) (place : ℕ) (body d c : List ℕ) → place ≡ length (batches_text batches) → IsText batches d → BodyTorn place body d c → IsText batches c
 body_torn batches place body d c at text torn =
-    let front = log_text batches in
+    let front = batches_text batches in
     let h : d ≡ front ++ text.gate ∷ text.rest = text.whole in
     let room = gate_count front text.rest d text.gate h in
     let reach : min (place + 1) (length d) ≡ length front + 1 = omega (arith, at, room) in
@@ -61,32 +61,32 @@ body_written front rest file body gate place at h =
     ∙ ap (λ (x : List ℕ). x ++ back) front_is ∙ append_assoc front (gate ∷ []) back
 
 -- the text of batches with one more
-pub log_text_more : (batches : List (List Mtr)) (batch : List Mtr) → log_text (batches ++ batch ∷ []) ≡ log_text batches ++ batch_text batch
-log_text_more batches batch = flat_map-append batch_text batches (batch ∷ []) ∙ ap (λ (x : List ℕ). log_text batches ++ x) (append-nil (batch_text batch))
+pub log_text_more : (batches : List (List Mtr)) (batch : List Mtr) → batches_text (batches ++ batch ∷ []) ≡ batches_text batches ++ batch_text batch
+log_text_more batches batch = flat_map-append batch_text batches (batch ∷ []) ∙ ap (λ (x : List ℕ). batches_text batches ++ x) (append-nil (batch_text batch))
 
 -- an open gate with the body behind it
-opened : (batches : List (List Mtr)) (batch : List Mtr) (more : List ℕ) → log_text batches ++ open_gate ∷ (body_of batch ++ more) ≡ log_text (batches ++ batch ∷ []) ++ 0 ∷ more
+opened : (batches : List (List Mtr)) (batch : List Mtr) (more : List ℕ) → batches_text batches ++ open_gate ∷ (body_of batch ++ more) ≡ batches_text (batches ++ batch ∷ []) ++ 0 ∷ more
 opened batches batch more =
     let bytes = batch_bytes batch in
     let head = little_bytes 4 (length bytes) in
     let inner : body_of batch ++ more ≡ (head ++ bytes) ++ 0 ∷ more =
     append_assoc head (bytes ++ 0 ∷ []) more ∙ ap (λ (x : List ℕ). head ++ x) (append_assoc bytes (0 ∷ []) more) ∙ sym (append_assoc head bytes (0 ∷ more)) in
-    ap (λ (x : List ℕ). log_text batches ++ open_gate ∷ x) inner
-    ∙ sym (append_assoc (log_text batches) (batch_text batch) (0 ∷ more))
+    ap (λ (x : List ℕ). batches_text batches ++ open_gate ∷ x) inner
+    ∙ sym (append_assoc (batches_text batches) (batch_text batch) (0 ∷ more))
     ∙ ap (λ (x : List ℕ). x ++ 0 ∷ more) (sym (log_text_more batches batch))
 
 closed_zero : 0 ≢ open_gate
 closed_zero e = absurd (omega (arith, e))
 
-pub text_more : (batches : List (List Mtr)) (batch : List Mtr) (more file : List ℕ) → file ≡ log_text batches ++ open_gate ∷ (body_of batch ++ more) → IsText (batches ++ batch ∷ []) file
+pub text_more : (batches : List (List Mtr)) (batch : List Mtr) (more file : List ℕ) → file ≡ batches_text batches ++ open_gate ∷ (body_of batch ++ more) → IsText (batches ++ batch ∷ []) file
 text_more batches batch more file h = record { gate = 0; rest = more; closed = closed_zero; whole = h ∙ opened batches batch more }
 
 -- any byte at the gate: it is closed or open
-any_gate : (batches : List (List Mtr)) (batch : List Mtr) (gate : ℕ) (more file : List ℕ) → file ≡ log_text batches ++ gate ∷ (body_of batch ++ more) → IsText batches file ⊎ IsText (batches ++ batch ∷ []) file
+any_gate : (batches : List (List Mtr)) (batch : List Mtr) (gate : ℕ) (more file : List ℕ) → file ≡ batches_text batches ++ gate ∷ (body_of batch ++ more) → IsText batches file ⊎ IsText (batches ++ batch ∷ []) file
 any_gate batches batch gate more file h = by_test (gate == open_gate) refl
   where
     by_test : (b : Bool) → (gate == open_gate) ≡ b → IsText batches file ⊎ IsText (batches ++ batch ∷ []) file
-    by_test true e = inr (text_more batches batch more file (h ∙ ap (λ (g : ℕ). log_text batches ++ g ∷ (body_of batch ++ more)) (eqb-true gate open_gate e)))
+    by_test true e = inr (text_more batches batch more file (h ∙ ap (λ (g : ℕ). batches_text batches ++ g ∷ (body_of batch ++ more)) (eqb-true gate open_gate e)))
     by_test false e = inl (record { gate = gate; rest = body_of batch ++ more; closed = λ same. absurd (false≢true (sym e ∙ eq-eqb gate open_gate same)); whole = h })
 
 -- the byte at a place and what is behind it
@@ -98,9 +98,9 @@ at_place place file lt = first (drop place file) (omega (arith, length-drop plac
     first (byte ∷ rest) some e = (byte, ap (λ (xs : List ℕ). byte ∷ xs) e)
 
 -- the gate alone is torn, over the body
-pub gate_torn : (batches : List (List Mtr)) (batch : List Mtr) (place : ℕ) (file c : List ℕ) → place ≡ length (log_text batches) → IsText batches file → GateTorn place (body_of batch) file c → IsText batches c ⊎ IsText (batches ++ batch ∷ []) c
+pub gate_torn : (batches : List (List Mtr)) (batch : List Mtr) (place : ℕ) (file c : List ℕ) → place ≡ length (batches_text batches) → IsText batches file → GateTorn place (body_of batch) file c → IsText batches c ⊎ IsText (batches ++ batch ∷ []) c
 gate_torn batches batch place file c at text torn =
-    let front = log_text batches in
+    let front = batches_text batches in
     let body = body_of batch in
     let more = drop (place + 1 + length body) file in
     let now = written (place + 1) body file in
@@ -118,9 +118,9 @@ gate_torn batches batch place file c at text torn =
     any_gate batches batch byte.0 more c c_whole
 
 -- the gate is open over the body
-pub gate_opened : (batches : List (List Mtr)) (batch : List Mtr) (place : ℕ) (file : List ℕ) → place ≡ length (log_text batches) → IsText batches file → IsText (batches ++ batch ∷ []) (gated place (body_of batch) file)
+pub gate_opened : (batches : List (List Mtr)) (batch : List Mtr) (place : ℕ) (file : List ℕ) → place ≡ length (batches_text batches) → IsText batches file → IsText (batches ++ batch ∷ []) (gated place (body_of batch) file)
 gate_opened batches batch place file at text =
-    let front = log_text batches in
+    let front = batches_text batches in
     let body = body_of batch in
     let more = drop (place + length (open_gate ∷ body)) file in
     let room = gate_count front text.rest file text.gate text.whole in
@@ -131,5 +131,5 @@ gate_opened batches batch place file at text =
     text_more batches batch more (gated place body file) whole
 
 -- the gate lies within the file
-pub gate_within : (batches : List (List Mtr)) (place : ℕ) (file : List ℕ) → place ≡ length (log_text batches) → IsText batches file → place < length file
-gate_within batches place file at text = omega (arith, at, gate_count (log_text batches) text.rest file text.gate text.whole)
+pub gate_within : (batches : List (List Mtr)) (place : ℕ) (file : List ℕ) → place ≡ length (batches_text batches) → IsText batches file → place < length file
+gate_within batches place file at text = omega (arith, at, gate_count (batches_text batches) text.rest file text.gate text.whole)

@@ -12,8 +12,8 @@ abbrev pub open_gate : ℕ
 open_gate = 165
 
 -- the most bytes of mtrs in a batch
-abbrev pub most_bytes : ℕ
-most_bytes = 65536
+abbrev pub most_batch_bytes : ℕ
+most_batch_bytes = 65536
 
 -- the mtrs of a batch, one after another
 abbrev pub batch_bytes : List Mtr → List ℕ
@@ -24,15 +24,15 @@ abbrev pub batch_text : List Mtr → List ℕ
 batch_text batch = open_gate ∷ (little_bytes 4 (length (batch_bytes batch)) ++ batch_bytes batch)
 
 -- batches, one after another
-abbrev pub log_text : List (List Mtr) → List ℕ
-log_text batches = flat_map batch_text batches
+abbrev pub batches_text : List (List Mtr) → List ℕ
+batches_text batches = flat_map batch_text batches
 
 -- the file is the text of these batches, then a closed gate, then anything
 pub record IsText (batches : List (List Mtr)) (file : List ℕ) : Type 0 where
   pub gate : ℕ
   pub rest : List ℕ
   pub closed : gate ≢ open_gate
-  pub whole : file ≡ log_text batches ++ gate ∷ rest
+  pub whole : file ≡ batches_text batches ++ gate ∷ rest
 
 -- the mtrs of batches, in their order
 abbrev pub mtrs_of : List (List Mtr) → List Mtr
@@ -49,7 +49,7 @@ pub record AreLogged (node : ℕ) (mtrs : List Mtr) : Type 0 where
 
 -- a batch has an mtr, and isn't too long
 abbrev pub IsBatch : List Mtr → Type 0
-IsBatch batch = (1 ≤ length batch) × (length (batch_bytes batch) ≤ most_bytes)
+IsBatch batch = (1 ≤ length batch) × (length (batch_bytes batch) ≤ most_batch_bytes)
 
 -- batches that a primary's log may hold
 pub record IsLog (node : ℕ) (batches : List (List Mtr)) : Type 0 where

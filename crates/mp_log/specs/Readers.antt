@@ -10,7 +10,7 @@ use Rattle.mp_log.specs.declared.readers.State.TheVariants.{Reading, Ended, Refu
 use Rattle.mp_log.specs.declared.refusals.LogRefusal.{LogRefusal}
 use Rattle.mp_log.specs.declared.refusals.LogRefusal.TheVariants as refusals
 use Rattle.mp_log.specs.Logs.{batch_bytes, last_after}
-use Rattle.mp_log.specs.Reading.{next_at}
+use Rattle.mp_log.specs.Reading.{next_at, AreBefore}
 
 -- the mtrs of the whole batches from a gate on, and the place of the fault behind them, where there is one, from the next
 -- batch and what `more` gives behind it
@@ -45,6 +45,7 @@ pub record Remains (reader : ReaderView) (file : List ℕ) (mtrs : List Mtr) (fa
   pub batch : List Mtr
   pub bytes : reader.bytes ≡ batch_bytes batch
   pub sound : AllByRecursion IsMtr batch
+  pub before : AreBefore reader.place.node reader.place.last reader.place.gate file
   pub mtrs_are : mtrs ≡ batch ++ (given_at fuel reader.place.node reader.place.last file reader.place.gate).0
   pub fault_is : fault ≡ (given_at fuel reader.place.node reader.place.last file reader.place.gate).1
 
@@ -65,6 +66,7 @@ pub record IsLoaded (file : List ℕ) (old new : ReaderView) : Type 0 where
   pub sound : AllByRecursion IsMtr batch
   pub bytes : new.bytes ≡ batch_bytes batch
   pub place : new.place ≡ record { node = old.place.node; gate = old.place.gate + (5 + count); last = last_after old.place.last batch }
+  pub before : AreBefore old.place.node old.place.last old.place.gate file → AreBefore new.place.node new.place.last new.place.gate file
 
 abbrev pub LoadsNext : List ℕ → ReaderView → ReaderView → Result Bool LogRefusal → Type 0
 LoadsNext file old new (Ok true) = IsLoaded file old new

@@ -8,19 +8,19 @@ use Rattle.mp_cells.specs.Numbers.{number_at}
 use Rattle.mp_redo.specs.Reading.{Read, and_then, field, mtr_at, fault_of}
 use Rattle.mp_log.specs.declared.refusals.LogRefusal.{LogRefusal}
 use Rattle.mp_log.specs.declared.refusals.LogRefusal.TheVariants.{Fault, Disk, Memory}
-use Rattle.mp_log.specs.Logs.{open_gate, most_bytes, batch_bytes, batch_text, log_text, mtrs_of, last_after, IsOf, IsBatch, IsLog, IsText}
+use Rattle.mp_log.specs.Logs.{open_gate, most_batch_bytes, batch_bytes, batch_text, batches_text, mtrs_of, last_after, IsOf, IsBatch, IsLog, IsText}
 
 -- whether the gate at a place is open; a fault there where the file ends
 abbrev pub gate_at : List ℕ → ℕ → Read Bool
 gate_at file place = field place (nat_lt place (length file)) (slice_index file place == open_gate)
 
 -- a count of bytes that a batch may have, with the next gate behind them in a file of this size
-abbrev pub is_count : ℕ → ℕ → ℕ → Bool
-is_count size gate count = nat_le 1 count && nat_le count most_bytes && nat_le (gate + (6 + count)) size
+abbrev pub is_batch_count : ℕ → ℕ → ℕ → Bool
+is_batch_count size gate count = nat_le 1 count && nat_le count most_batch_bytes && nat_le (gate + (6 + count)) size
 
 -- how many bytes the batch behind the gate at a place has
 abbrev pub count_at : List ℕ → ℕ → Read ℕ
-count_at file gate = let count = number_at (gate + 1) 4 file in field (gate + 1) (nat_le (gate + 5) (length file) && is_count (length file) gate count) count
+count_at file gate = let count = number_at (gate + 1) 4 file in field (gate + 1) (nat_le (gate + 5) (length file) && is_batch_count (length file) gate count) count
 
 -- the same where the gate is open; none where it is closed
 abbrev pub open_at : List ℕ → ℕ → Read (Option ℕ)
@@ -67,8 +67,16 @@ abbrev pub log_at : ℕ → List ℕ → Read (List (List Mtr) × ℕ)
 log_at node file = batches_at (length file + 1) node 0 file 0
 
 -- the place of the first fault, where the file is no log of the node
-abbrev pub first_fault : ℕ → List ℕ → Option ℕ
-first_fault node file = fault_of (log_at node file)
+abbrev pub log_fault : ℕ → List ℕ → Option ℕ
+log_fault node file = fault_of (log_at node file)
+
+-- the batches of a primary's log that stand before a gate, of whose mtrs the last has this LLSN
+pub record AreBefore (node last gate : ℕ) (file : List ℕ) : Type 0 where
+  pub batches : List (List Mtr)
+  pub log : IsLog node batches
+  pub split : file ≡ batches_text batches ++ drop gate file
+  pub gate_is : gate ≡ length (batches_text batches)
+  pub last_is : last ≡ last_after 0 (mtrs_of batches)
 
 -- an answer that says what was read, unless the disk failed or there was no memory
 abbrev pub Tells : {A : Type 0} → Read A → Result A LogRefusal → Type 0
@@ -78,11 +86,11 @@ Tells read (Err Disk) = Unit {0}
 Tells read (Err Memory) = Unit {0}
 
 -- a refusal by the disk comes only where its count of faults rose
-abbrev pub HasCause : {A : Type 0} → ℕ → ℕ → Result A LogRefusal → Type 0
-HasCause old new (Ok x) = Unit {0}
-HasCause old new (Err (Fault place)) = Unit {0}
-HasCause old new (Err Disk) = Rose old new
-HasCause old new (Err Memory) = Unit {0}
+abbrev pub LogCause : {A : Type 0} → ℕ → ℕ → Result A LogRefusal → Type 0
+LogCause old new (Ok x) = Unit {0}
+LogCause old new (Err (Fault place)) = Unit {0}
+LogCause old new (Err Disk) = Rose old new
+LogCause old new (Err Memory) = Unit {0}
 
 -- what a check of a batch's bytes answers and adds to a list of LLSNs: they are the bytes of these mtrs of the node
 pub record AreChecked (read : Read (List Mtr)) (bytes : List ℕ) (node last : ℕ) (old new : List ℕ) (end : ℕ) : Type 0 where
@@ -101,7 +109,7 @@ Checks read bytes node last old new (Err Disk) = ⊥
 Checks read bytes node last old new (Err Memory) = Unit {0}
 
 -- what the next batch is, with its count of bytes and the LLSN of its last mtr
-pub record IsNext (node last : ℕ) (file : List ℕ) (gate : ℕ) (old new : List ℕ) (count end : ℕ) : Type 0 where
+pub record IsNextBatch (node last : ℕ) (file : List ℕ) (gate : ℕ) (old new : List ℕ) (count end : ℕ) : Type 0 where
   pub batch : List Mtr
   pub is : next_at node last file gate ≡ Ok (Some (batch, count))
   pub spelled : drop gate file ≡ batch_text batch ++ drop (gate + (5 + count)) file
@@ -114,7 +122,7 @@ pub record IsNext (node last : ℕ) (file : List ℕ) (gate : ℕ) (old new : Li
 
 abbrev pub Nexts : ℕ → ℕ → List ℕ → ℕ → List ℕ → List ℕ → Result (Option (ℕ × ℕ)) LogRefusal → Type 0
 Nexts node last file gate old new (Ok None) = (next_at node last file gate ≡ Ok None) × (new ≡ old)
-Nexts node last file gate old new (Ok (Some next)) = IsNext node last file gate old new next.0 next.1
+Nexts node last file gate old new (Ok (Some next)) = IsNextBatch node last file gate old new next.0 next.1
 Nexts node last file gate old new (Err (Fault place)) = next_at node last file gate ≡ Err place
 Nexts node last file gate old new (Err Disk) = Unit {0}
 Nexts node last file gate old new (Err Memory) = Unit {0}
@@ -124,7 +132,7 @@ pub record IsReadLog (node : ℕ) (file old new : List ℕ) (place last : ℕ) :
   pub batches : List (List Mtr)
   pub log : IsLog node batches
   pub text : IsText batches file
-  pub place_is : place ≡ length (log_text batches)
+  pub place_is : place ≡ length (batches_text batches)
   pub last_is : last ≡ last_after 0 (mtrs_of batches)
   pub added : new ≡ old ++ map (λ mtr. mtr.llsn) (mtrs_of batches)
 

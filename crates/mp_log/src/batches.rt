@@ -7,7 +7,8 @@ ghost use Rattle.mp_outside.specs.Disks.{Quiet};
 ghost use Rattle.mp_cells.specs.Mtrs.{IsMtr};
 ghost use Rattle.mp_redo.specs.Spelling.{mtr_bytes};
 ghost use Rattle.mp_redo.specs.Reading.{mtr_at};
-ghost use Rattle.mp_log.specs.Reading.{gate_at, is_count, count_at, open_at, mtrs_at, from_place, Tells, HasCause, Checks, Nexts};
+ghost use Rattle.mp_log.specs.Reading.{gate_at, is_batch_count, count_at, open_at, mtrs_at, from_place, Tells, LogCause, Checks, Nexts};
+ghost use Rattle.mp_log.specs.Opening.{last_or, IsTied};
 
 use crate::refusals::LogRefusal;
 use mp_cells::{Mtr, u32_at};
@@ -42,7 +43,7 @@ pub(crate) fn gate_at<D: Disk>(disk: &mut D, size: u64, place: u64) -> Result<bo
     ensures within { IfOk result (λ is_open. place < size) }
     ensures known { D.known disk.new ≡ D.known disk.old }
     ensures count { D.faults disk.old ≤ D.faults disk.new }
-    ensures cause { size ≤ D.known disk.old → HasCause (D.faults disk.old) (D.faults disk.new) result }
+    ensures cause { size ≤ D.known disk.old → LogCause (D.faults disk.old) (D.faults disk.new) result }
 {
     if size <= place {
         return Err(LogRefusal::Fault { place });
@@ -74,9 +75,9 @@ fn number_of(bytes: &[u8]) -> u32
     u32_at(bytes, 0)
 }
 
-fn is_count(size: u64, gate: u64, count: u32) -> bool
+fn is_batch_count(size: u64, gate: u64, count: u32) -> bool
     requires { gate < 2 ^ 63 + 2 ^ 62 }
-    ensures { result ≡ is_count size gate count }
+    ensures { result ≡ is_batch_count size gate count }
 {
     1 <= count && count <= MOST_BYTES as u32 && gate + (6 + u64::from(count)) <= size
 }
@@ -88,16 +89,16 @@ pub(crate) fn count_at<D: Disk>(disk: &mut D, size: u64, gate: u64) -> Result<us
     ensures quiet { Quiet (D.seen disk.old) (D.image disk.old) (D.seen disk.new) (D.image disk.new) }
     ensures exact { IsTrue (D.tells disk.old) → size ≡ length (D.seen disk.old) → Tells (count_at (D.seen disk.old) gate) result }
     ensures spelled { IsTrue (D.tells disk.old) → IfOk result (λ count. take 4 (drop (gate + 1) (D.seen disk.old)) ≡ little_bytes 4 count) }
-    ensures fits { IfOk result (λ count. IsTrue (is_count size gate count)) }
+    ensures fits { IfOk result (λ count. IsTrue (is_batch_count size gate count)) }
     ensures known { D.known disk.new ≡ D.known disk.old }
     ensures count { D.faults disk.old ≤ D.faults disk.new }
-    ensures cause { size ≤ D.known disk.old → HasCause (D.faults disk.old) (D.faults disk.new) result }
+    ensures cause { size ≤ D.known disk.old → LogCause (D.faults disk.old) (D.faults disk.new) result }
 {
     if size < gate + 5 {
         return Err(LogRefusal::Fault { place: gate + 1 });
     }
     let count = read_count(disk, gate)?;
-    if is_count(size, gate, count) {
+    if is_batch_count(size, gate, count) {
         Ok(count as usize)
     } else {
         Err(LogRefusal::Fault { place: gate + 1 })
@@ -115,10 +116,10 @@ pub(crate) fn open_at<D: Disk>(
     ensures quiet { Quiet (D.seen disk.old) (D.image disk.old) (D.seen disk.new) (D.image disk.new) }
     ensures exact { IsTrue (D.tells disk.old) → size ≡ length (D.seen disk.old) → Tells (open_at (D.seen disk.old) gate) result }
     ensures spelled { IsTrue (D.tells disk.old) → IfOk result (λ open_count. IfSome open_count (λ count. take 4 (drop (gate + 1) (D.seen disk.old)) ≡ little_bytes 4 count)) }
-    ensures fits { IfOk result (λ open_count. IfSome open_count (λ count. IsTrue (is_count size gate count))) }
+    ensures fits { IfOk result (λ open_count. IfSome open_count (λ count. IsTrue (is_batch_count size gate count))) }
     ensures known { D.known disk.new ≡ D.known disk.old }
     ensures count { D.faults disk.old ≤ D.faults disk.new }
-    ensures cause { size ≤ D.known disk.old → HasCause (D.faults disk.old) (D.faults disk.new) result }
+    ensures cause { size ≤ D.known disk.old → LogCause (D.faults disk.old) (D.faults disk.new) result }
 {
     if !gate_at(disk, size, gate)? {
         return Ok(None);
@@ -155,7 +156,7 @@ fn mtr_at(alloc: Global, bytes: &[u8], place: u64) -> Result<(Mtr, usize), LogRe
     ensures spelled { IfOk result (λ found. IsMtr found.0 × (bytes.now ≡ mtr_bytes found.0 ++ drop found.1 bytes.now)) }
     ensures size { IfOk result (λ found. found.1 ≡ length (mtr_bytes found.0)) }
     ensures within { IfOk result (λ found. found.1 ≤ length bytes.now) }
-    ensures quiet { HasCause 0 0 result }
+    ensures quiet { LogCause 0 0 result }
 {
     match decode(alloc, bytes) {
         Ok(found) => Ok(found),
@@ -227,11 +228,12 @@ pub(crate) fn next_batch<D: Disk>(
     ensures exact { IsTrue (D.tells disk.old) → size ≡ length (D.seen disk.old) → Nexts place.node place.last (D.seen disk.old) place.gate llsns.old.items llsns.new.items result }
     ensures front { IsTrue (D.tells disk.old) → IfOk result (λ found. IfSome found (λ next. take next.0 into.new ≡ take next.0 (drop (place.gate + 5) (D.seen disk.old)))) }
     ensures whole { length into.new ≡ 65536 }
+    ensures tied { IsTied place.last llsns.old.items → IfOk result (λ found. IsTied (last_or place.last found) llsns.new.items) }
     ensures most { IfOk result (λ found. IfSome found (λ next. next.0 ≤ 65536)) }
     ensures within { IfOk result (λ found. IfSome found (λ next. place.gate + (6 + next.0) ≤ size)) }
     ensures known { D.known disk.new ≡ D.known disk.old }
     ensures count { D.faults disk.old ≤ D.faults disk.new }
-    ensures cause { size ≤ D.known disk.old → HasCause (D.faults disk.old) (D.faults disk.new) result }
+    ensures cause { size ≤ D.known disk.old → LogCause (D.faults disk.old) (D.faults disk.new) result }
 {
     let Some(count) = open_at(disk, size, place.gate)? else {
         return Ok(None);

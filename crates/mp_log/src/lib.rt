@@ -13,11 +13,11 @@ mod refusals;
 mod resetting;
 mod tails;
 
-pub use laws::{law_log_mtrs, law_log_text};
+pub use laws::{law_kept_log, law_log_examples, law_log_mtrs, law_log_read, law_log_text};
 pub use log::{Log, Unopened};
 pub use readers::Reader;
 pub use refusals::LogRefusal;
-pub use resetting::reset;
+pub use resetting::{init, reset};
 
 #[cfg(test)]
 mod tests;

@@ -2,7 +2,7 @@
 
 ghost use Rattle.std.specs.Prelude.{◌≡◌, ◌+◌, ◌<◌, ◌≤◌, ◌^◌, [], IsTrue, IfOk, IfSome, length, take, drop};
 ghost use Rattle.mp_outside.specs.Disks.{Quiet};
-ghost use Rattle.mp_log.specs.Reading.{HasCause, Nexts};
+ghost use Rattle.mp_log.specs.Reading.{LogCause, Nexts};
 
 use crate::batches::{Llsns, LogPlace, next_batch};
 use crate::refusals::LogRefusal;
@@ -77,7 +77,7 @@ impl Loaded {
         ensures within { IfOk result (λ found. IfSome found (λ next. place.gate + (6 + next.0) ≤ size)) }
         ensures known { D.known disk.new ≡ D.known disk.old }
         ensures count { D.faults disk.old ≤ D.faults disk.new }
-        ensures cause { size ≤ D.known disk.old → HasCause (D.faults disk.old) (D.faults disk.new) result }
+        ensures cause { size ≤ D.known disk.old → LogCause (D.faults disk.old) (D.faults disk.new) result }
     {
         match next_batch(alloc, disk, size, place, &mut self.buffer, llsns) {
             Ok(Some((count, end))) => {

@@ -2,8 +2,8 @@
 
 ghost use Rattle.std.specs.Prelude.{◌≡◌, ◌+◌, ◌<◌, ◌≤◌, ◌^◌, IsTrue, IfOk, OnOk, length, [], true};
 ghost use Rattle.mp_outside.specs.Disks.{Quiet, Only, Counts};
-ghost use Rattle.mp_log.specs.Reading.{ReadsLog, HasCause};
-ghost use Rattle.mp_log.specs.Opening.{Opens};
+ghost use Rattle.mp_log.specs.Reading.{ReadsLog, LogCause};
+ghost use Rattle.mp_log.specs.Opening.{OpensLog, IsTied};
 
 use crate::batches::{Llsns, LogPlace, next_batch};
 use crate::bodies::Body;
@@ -29,9 +29,10 @@ pub(crate) fn read_batches<D: Disk>(
     ensures quiet { Quiet (D.seen disk.old) (D.image disk.old) (D.seen disk.new) (D.image disk.new) }
     ensures exact { IsTrue (D.tells disk.old) → size ≡ length (D.seen disk.old) → ReadsLog node (D.seen disk.old) llsns.old.items llsns.new.items result }
     ensures within { IfOk result (λ end. end.0 ≤ size) }
+    ensures tied { IsTied 0 llsns.old.items → IfOk result (λ end. IsTied end.1 llsns.new.items) }
     ensures known { D.known disk.new ≡ D.known disk.old }
     ensures count { D.faults disk.old ≤ D.faults disk.new }
-    ensures cause { size ≤ D.known disk.old → HasCause (D.faults disk.old) (D.faults disk.new) result }
+    ensures cause { size ≤ D.known disk.old → LogCause (D.faults disk.old) (D.faults disk.new) result }
 {
     let mut gate = 0;
     let mut last = 0;
@@ -92,12 +93,13 @@ pub(crate) fn open_at_end<D: Disk>(
 ) -> Result<Opened, LogRefusal>
     ensures tells { D.tells disk.new ≡ D.tells disk.old }
     ensures quiet { Quiet (D.seen disk.old) (D.image disk.old) (D.seen disk.new) (D.image disk.new) }
-    ensures exact { IsTrue (D.tells disk.old) → Opens node (D.seen disk.old) (D.seen disk.new) (D.image disk.new) result }
+    ensures exact { IsTrue (D.tells disk.old) → OpensLog node (D.seen disk.old) (D.seen disk.new) (D.image disk.new) result }
     ensures live { IfOk result (λ opened. opened.tail.live ≡ true) }
     ensures node { IfOk result (λ opened. opened.tail.node ≡ node) }
     ensures nothing { IfOk result (λ opened. opened.tail.bytes ≡ []) }
+    ensures tied { IfOk result (λ opened. IsTied opened.tail.last opened.llsns.items) }
     ensures count { D.faults disk.old ≤ D.faults disk.new }
-    ensures cause { HasCause (D.faults disk.old) (D.faults disk.new) result }
+    ensures cause { LogCause (D.faults disk.old) (D.faults disk.new) result }
 {
     let Ok(mut buffer) = vec![in alloc; 0u8; 65536] else {
         return Err(LogRefusal::Memory);

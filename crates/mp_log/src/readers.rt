@@ -1,14 +1,14 @@
 //! Reading a log mtr by mtr.
 
-ghost use Rattle.std.specs.Prelude.{◌≡◌, ◌≤◌, ◌++◌, [], ℕ, List, Option, None, Some, Ok, Err, true, false, IsTrue, IfOk, length};
+ghost use Rattle.std.specs.Prelude.{◌≡◌, ◌≤◌, ◌++◌, [], ℕ, List, Option, None, Some, Ok, Err, true, false, IsTrue, IfOk, IfSome, length};
 ghost use Rattle.mp_outside.specs.Disks.{Quiet};
 ghost use Rattle.mp_cells.specs.declared.records.Mtr.{Mtr};
 ghost use Rattle.mp_cells.specs.Mtrs.{IsMtr};
 ghost use Rattle.mp_redo.specs.Spelling.{mtr_bytes};
 ghost use Rattle.mp_log.specs.declared.readers.State.TheVariants.{Reading, Ended, Refused};
 ghost use Rattle.mp_log.specs.declared.refusals.LogRefusal.{LogRefusal};
-ghost use Rattle.mp_log.specs.Logs.{batch_bytes};
-ghost use Rattle.mp_log.specs.Reading.{HasCause};
+ghost use Rattle.mp_log.specs.Logs.{batch_bytes, IsLog, IsText};
+ghost use Rattle.mp_log.specs.Reading.{next_at, LogCause};
 ghost use Rattle.mp_log.specs.Readers.{fresh_reader, LoadsNext, TakesNext, Remains, Fills, Advances, GivesNext};
 
 use crate::batches::{Llsns, LogPlace};
@@ -76,8 +76,11 @@ impl Reader {
         ensures quiet { Quiet (D.seen disk.old) (D.image disk.old) (D.seen disk.new) (D.image disk.new) }
         ensures state { self.new.state ≡ self.old.state }
         ensures exact { IsTrue (D.tells disk.old) → LoadsNext (D.seen disk.old) self.old self.new result }
+        ensures node { self.new.place.node ≡ self.old.place.node }
+        ensures at_end { IsTrue (D.tells disk.old) → result ≡ Ok false
+            → next_at self.old.place.node self.old.place.last (D.seen disk.old) self.old.place.gate ≡ Ok None }
         ensures count { D.faults disk.old ≤ D.faults disk.new }
-        ensures cause { HasCause (D.faults disk.old) (D.faults disk.new) result }
+        ensures cause { LogCause (D.faults disk.old) (D.faults disk.new) result }
     {
         let Ok(size) = disk.length() else {
             return Err(LogRefusal::Disk);
@@ -102,7 +105,8 @@ impl Reader {
         ensures place { self.new.place ≡ self.old.place }
         ensures state { self.new.state ≡ self.old.state }
         ensures mtr { (mtr : Mtr) (rest : List Mtr) → IsMtr mtr → self.old.bytes ≡ mtr_bytes mtr ++ batch_bytes rest → TakesNext mtr rest self.new result }
-        ensures quiet { HasCause 0 0 result }
+        ensures sound { IfOk result (λ mtr. IsMtr mtr) }
+        ensures quiet { LogCause 0 0 result }
     {
         match decode(self.alloc, self.batch.bytes()) {
             Ok((mtr, count)) => {
@@ -121,8 +125,11 @@ impl Reader {
         ensures quiet { Quiet (D.seen disk.old) (D.image disk.old) (D.seen disk.new) (D.image disk.new) }
         ensures state { self.new.state ≡ self.old.state }
         ensures exact { (mtrs : List Mtr) (fault : Option ℕ) → IsTrue (D.tells disk.old) → Remains self.old (D.seen disk.old) mtrs fault → Fills (D.seen disk.old) mtrs fault self.new result }
+        ensures node { self.new.place.node ≡ self.old.place.node }
+        ensures at_end { IsTrue (D.tells disk.old) → result ≡ Ok false
+            → next_at self.old.place.node self.old.place.last (D.seen disk.old) self.old.place.gate ≡ Ok None }
         ensures count { D.faults disk.old ≤ D.faults disk.new }
-        ensures cause { HasCause (D.faults disk.old) (D.faults disk.new) result }
+        ensures cause { LogCause (D.faults disk.old) (D.faults disk.new) result }
     {
         if self.has_left() {
             return Ok(true);
@@ -144,8 +151,12 @@ impl Reader {
         ensures quiet { Quiet (D.seen disk.old) (D.image disk.old) (D.seen disk.new) (D.image disk.new) }
         ensures state { self.new.state ≡ self.old.state }
         ensures exact { (mtrs : List Mtr) (fault : Option ℕ) → IsTrue (D.tells disk.old) → Remains self.old (D.seen disk.old) mtrs fault → Advances (D.seen disk.old) mtrs fault self.new result }
+        ensures sound { IfOk result (λ next. IfSome next (λ mtr. IsMtr mtr)) }
+        ensures node { self.new.place.node ≡ self.old.place.node }
+        ensures at_end { IsTrue (D.tells disk.old) → result ≡ Ok None
+            → next_at self.old.place.node self.old.place.last (D.seen disk.old) self.old.place.gate ≡ Ok None }
         ensures count { D.faults disk.old ≤ D.faults disk.new }
-        ensures cause { HasCause (D.faults disk.old) (D.faults disk.new) result }
+        ensures cause { LogCause (D.faults disk.old) (D.faults disk.new) result }
     {
         match self.fill(disk) {
             Ok(true) => match self.take() {
@@ -164,14 +175,21 @@ impl Reader {
     pub fn next<D: Disk>(&mut self, disk: &mut D) -> Result<Option<Mtr>, LogRefusal>
         ensures tells { D.tells disk.new ≡ D.tells disk.old }
         ensures quiet { Quiet (D.seen disk.old) (D.image disk.old) (D.seen disk.new) (D.image disk.new) }
+        // What it gives is of the grammar, whatever the disk tells.
+        ensures sound { IfOk result (λ next. IfSome next (λ mtr. IsMtr mtr)) }
         // Of what is left it gives the first, or says that nothing is, or names the fault.
         ensures gives { (mtrs : List Mtr) (fault : Option ℕ) → IsTrue (D.tells disk.old) → Remains self.old (D.seen disk.old) mtrs fault → GivesNext (D.seen disk.old) mtrs fault self.new result }
+        // Where it comes to the end, the file is the text of batches that the primary's log may hold.
+        ensures whole { (mtrs : List Mtr) (fault : Option ℕ) → IsTrue (D.tells disk.old)
+            → Remains self.old (D.seen disk.old) mtrs fault → result ≡ Ok None
+            → (batches : List (List Mtr)) × IsLog self.old.place.node batches × IsText batches (D.seen disk.old) }
+        ensures node { self.new.place.node ≡ self.old.place.node }
         // After an mtr it goes on.
         ensures goes_on { (mtr : Mtr) → result ≡ Ok (Some mtr) → self.new.state ≡ Reading }
         ensures ended { self.old.state ≡ Ended → (result ≡ Ok None) × (self.new ≡ self.old) }
         ensures refused { (refusal : LogRefusal) → self.old.state ≡ Refused refusal → (result ≡ Err refusal) × (self.new ≡ self.old) }
         ensures count { D.faults disk.old ≤ D.faults disk.new }
-        ensures cause { self.old.state ≡ Reading → HasCause (D.faults disk.old) (D.faults disk.new) result }
+        ensures cause { self.old.state ≡ Reading → LogCause (D.faults disk.old) (D.faults disk.new) result }
     {
         match self.state {
             State::Ended => Ok(None),
@@ -186,8 +204,12 @@ impl Reader {
         ensures quiet { Quiet (D.seen disk.old) (D.image disk.old) (D.seen disk.new) (D.image disk.new) }
         ensures goes_on { (mtr : Mtr) → result ≡ Ok (Some mtr) → self.new.state ≡ self.old.state }
         ensures gives { (mtrs : List Mtr) (fault : Option ℕ) → IsTrue (D.tells disk.old) → Remains self.old (D.seen disk.old) mtrs fault → GivesNext (D.seen disk.old) mtrs fault self.new result }
+        ensures sound { IfOk result (λ next. IfSome next (λ mtr. IsMtr mtr)) }
+        ensures node { self.new.place.node ≡ self.old.place.node }
+        ensures at_end { IsTrue (D.tells disk.old) → result ≡ Ok None
+            → next_at self.old.place.node self.old.place.last (D.seen disk.old) self.old.place.gate ≡ Ok None }
         ensures count { D.faults disk.old ≤ D.faults disk.new }
-        ensures cause { HasCause (D.faults disk.old) (D.faults disk.new) result }
+        ensures cause { LogCause (D.faults disk.old) (D.faults disk.new) result }
     {
         match self.advance(disk) {
             Ok(Some(mtr)) => Ok(Some(mtr)),

@@ -1,9 +1,9 @@
 //! The end of a log that is written.
 
-ghost use Rattle.std.specs.Prelude.{◌≡◌, ◌+◌, ◌<◌, ◌≤◌, ◌^◌, [], ◌++◌, true, false, length, IfOk, if◌then◌else◌};
+ghost use Rattle.std.specs.Prelude.{◌≡◌, ◌+◌, ◌<◌, ◌≤◌, ◌^◌, [], ◌++◌, true, false, length, IfOk};
 ghost use Rattle.mp_cells.specs.Mtrs.{IsMtr};
 ghost use Rattle.mp_redo.specs.Spelling.{mtr_bytes};
-ghost use Rattle.mp_log.specs.Tails.{room_of, place_bound};
+ghost use Rattle.mp_log.specs.Tails.{room_of};
 
 use mp_cells::Mtr;
 use mp_model::{Memory, Text};
@@ -67,7 +67,7 @@ impl Tail {
 
     pub fn place(&self) -> u64
         ensures place { result ≡ self.now.place }
-        ensures early { 1 ≤ length self.now.bytes → result < 2 ^ 63 }
+        ensures below { result < 2 ^ 63 }
     {
         self.place
     }
@@ -88,11 +88,7 @@ impl Tail {
     pub fn room(&self) -> usize
         ensures { result ≡ room_of self.now }
     {
-        if self.place < 1 << 63 {
-            65536 - self.text.len()
-        } else {
-            0
-        }
+        65536 - self.text.len()
     }
 
     /// Whether nothing is appended.
@@ -123,7 +119,7 @@ impl Tail {
 
     /// After what was appended was written behind the gate: the next gate is behind it, and nothing is appended.
     pub fn move_on(&mut self)
-        requires { 1 ≤ length self.old.bytes }
+        requires { self.old.place + (6 + length self.old.bytes) < 2 ^ 63 }
         ensures { self.new ≡ record self.old { place = self.old.place + (5 + length self.old.bytes); bytes = [] } }
     {
         self.place += 5 + self.text.len() as u64;

@@ -1,7 +1,7 @@
 //! The worked log, damaged forms of it, and a force that is stopped at each call with each crash.
 
 use super::*;
-use mp_outside::{Disk, FuseDisk, MemDisk, read_exactly};
+use mp_outside::{Disk, FuseDisk, MemDisk, byte_at, read_exactly};
 use mp_redo::{decode, size};
 use std::alloc::Global;
 use std::test::*;
@@ -75,34 +75,69 @@ fn damaged_logs(rt: HostRuntime) -> Result<(), Fail> {
     Ok(())
 }
 
-// Forces the worked mtr on a fresh log of a disk that passes so many calls, and then lets it crash. Answers whether the
+// Forces an mtr on the log in a file, on a disk that passes so many calls, and then lets it crash. Answers whether the
 // force was done and what the file is then.
-fn stopped(alloc: Global, passes: u64, choice: u8) -> Result<(bool, [u8; 33]), Fail> {
-    let disk = MemDisk::new(alloc, &[0], 64, &[])?;
+fn stopped(
+    alloc: Global,
+    file: &[u8],
+    mtr: &[u8],
+    passes: u64,
+    choice: u8,
+) -> Result<(bool, [u8; 65]), Fail> {
+    let disk = MemDisk::new(alloc, file, file.len() as u64 + 96, &[])?;
     let Ok(mut log) = Log::open(alloc, FuseDisk::new(disk, passes), 1) else {
-        return Ok((false, [0; 33]));
+        return Ok((false, [0; 65]));
     };
-    let done = append_and_force(alloc, &mut log, &WORKED[5..32]);
+    let done = append_and_force(alloc, &mut log, mtr);
     let mut disk = log.into_disk().into_disk();
     if choice < 4 {
         disk.crash(choice);
     }
-    let mut left = [0; 33];
-    let _ = read_exactly(&mut disk, 0, &mut left);
+    let mut left = [0; 65];
+    for place in 0..65 {
+        let _ = read_exactly(&mut disk, place as u64, &mut left[place..place + 1]);
+    }
     Ok((done, left))
+}
+
+// The worked mtr with LLSN 3.
+fn second_mtr() -> [u8; 27] {
+    let mut mtr = [0; 27];
+    mtr.copy_from_slice(&WORKED[5..32]);
+    mtr[2] = 3;
+    mtr
 }
 
 #[test]
 fn a_stop_leaves_whole_batches(rt: HostRuntime) -> Result<(), Fail> {
-    // Opening takes a sync, the length and one read.
-    for passes in 3..8 {
-        for choice in 0..4 {
-            let (done, left) = stopped(rt.alloc(), passes, choice)?;
-            let whole = left == WORKED;
-            assert!(rt; whole || left[0] != 0xa5);
-            assert!(rt; if done { whole } else { passes < 7 });
-            assert!(rt; passes >= 5 || !whole);
+    // Opening takes a sync, the length and one read; three reads more where there is a batch.
+    let second = second_mtr();
+    let table = [
+        ([0].as_slice(), &WORKED[5..32], 0, 3),
+        (WORKED.as_slice(), second.as_slice(), 32, 6),
+    ];
+    for (file, mtr, gate, opened) in table {
+        for passes in opened..opened + 5 {
+            for choice in 0..4 {
+                let (done, left) = stopped(rt.alloc(), file, mtr, passes, choice)?;
+                let whole = left[gate] == 0xa5 && left[gate + 5..gate + 32] == mtr[..];
+                assert!(rt; left[..gate] == file[..gate]);
+                assert!(rt; whole || left[gate] != 0xa5);
+                assert!(rt; if done { whole } else { passes < opened + 4 });
+                assert!(rt; passes >= opened + 2 || !whole);
+            }
         }
+    }
+    Ok(())
+}
+
+#[test]
+fn a_log_is_made_afresh_whatever_stood_there(rt: HostRuntime) -> Result<(), Fail> {
+    for file in [WORKED.as_slice(), b"A log of another kind", b""] {
+        let mut disk = MemDisk::new(rt.alloc(), file, 64, &[])?;
+        assert_eq!(rt; init(&mut disk), Ok(()));
+        assert_eq!(rt; disk.length(), Ok(1));
+        assert_eq!(rt; byte_at(&mut disk, 0), Ok(0));
     }
     Ok(())
 }

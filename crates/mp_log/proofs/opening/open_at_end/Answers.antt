@@ -1,13 +1,18 @@
 -- The log is read after the sync, when what a read gives is all that a crash may leave.
-use Rattle.std.proofs.Common.{◌≡◌, IsTrue, List, ℕ, length, sym, ap, subst, ◌∙◌}
+use Rattle.std.proofs.Common.{◌≡◌, IsTrue, List, [], ℕ, length, sym, ap, subst, ◌∙◌}
 use Rattle.mp_outside.proofs.Quiets.{Quiet-trans}
 use Rattle.mp_log.specs.Tails.{TailView}
 use Rattle.mp_log.specs.Reading.{IsReadLog}
 use Rattle.mp_log.proofs.Opened.{is_opened}
+use Rattle.mp_log.proofs.Tied.{tied_first}
 use Rattle.mp_log.proofs.opening.open_at_end.Goals as goal
 
 pub returns-in-Ok-read_batches-clause-quiet : goal.returns-in-Ok-read_batches-clause-quiet
 returns-in-Ok-read_batches-clause-quiet g c = Quiet-trans c.in-Ok-safe_size.ensures.quiet c.in-Ok-read_batches.ensures.quiet
+
+pub returns-in-Ok-read_batches-clause-tied : goal.returns-in-Ok-read_batches-clause-tied
+returns-in-Ok-read_batches-clause-tied g c =
+    rw c.move_to.ensures (c.in-Ok-read_batches.ensures.tied (rw c.in-Ok-new.ensures.llsns (tied_first [])))
 
 pub returns-in-Ok-read_batches-clause-exact : goal.returns-in-Ok-read_batches-clause-exact
 returns-in-Ok-read_batches-clause-exact g c = λ tells.

@@ -1,6 +1,7 @@
 -- The batches so far are read, the disk is as it was, and no fault of the disk was forgotten.
 use Rattle.std.proofs.Common.{◌≡◌, ◌+◌, ◌-◌, ◌≤◌, IsTrue, length}
 use Rattle.mp_outside.specs.Disks.{Quiet}
+use Rattle.mp_log.specs.Opening.{IsTied}
 use Rattle.mp_log.proofs.Opened.{BatchesSoFar}
 use Rattle.mp_log.proofs.opening.read_batches.Given as goal
 
@@ -12,5 +13,6 @@ invariant-loop g l = let disk = g.D.Disk in record {
   within : l.gate ≤ l.size;
   room : length l.into ≡ 65536;
   known : disk.known l.disk ≡ disk.known l.initial.disk;
+  tied : IsTied 0 l.initial.llsns.items → IsTied l.last l.llsns.items;
   counted : disk.faults l.initial.disk ≤ disk.faults l.disk;
 }
