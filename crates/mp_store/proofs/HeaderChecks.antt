@@ -1,12 +1,14 @@
 -- Where the two sides of a header's home have no fault, the side in force has none, and its version fits.
-use Rattle.std.proofs.Common.{◌≡◌, ℕ, ◌+◌, ◌<◌, ◌^◌, Bool, true, false, List, [], ◌∷◌, drop, replicate, Option, Some, None, refl}
+use Rattle.std.proofs.Common.{◌≡◌, ℕ, ◌+◌, ◌≤◌, ◌<◌, ◌^◌, Bool, true, false, List, [], ◌∷◌, drop, replicate, Option, Some, None, refl}
 use Rattle.std.specs.Prelude.{◌&&◌, ◌||◌, not, nat_le, nat_lt, if◌then◌else◌}
+use Rattle.std.proofs.lemmas.Bool.{leb-true}
 use borrow.Author.Tests.{ltb-true}
 use Rattle.mp_cells.specs.Numbers.{number_at}
 use Rattle.mp_store.specs.declared.sides.Side.TheVariants.{First, Second}
 use Rattle.mp_store.specs.Checks.{unless, only_if, first_of, fixed_fault}
-use Rattle.mp_store.specs.Layout.{is_open, pick}
-use Rattle.mp_store.specs.HeaderSides.{header_mark, header_generation, header_of, numbers_fault, header_fault, headers_fault, header_in}
+use Rattle.mp_store.specs.Layout.{store_length, is_open, pick}
+use Rattle.mp_store.specs.StoreFiles.{length_fault}
+use Rattle.mp_store.specs.HeaderSides.{IsHeader, header_mark, header_generation, header_of, numbers_fault, header_fault, headers_fault, header_in}
 
 -- checks that find none: the first finds none, and so do the others
 pub none_first : (check : Option ℕ) (checks : List (Option ℕ)) → first_of (check ∷ checks) ≡ None → (check ≡ None) × (first_of checks ≡ None)
@@ -53,3 +55,30 @@ version_fits place side h =
     none_fourth (unless (nat_le 1 (header_generation side)) (place + 16)) (unless (nat_lt (number_at 24 8 side) (2 ^ 38)) (place + 24))
     (unless (nat_lt (number_at 32 8 side) (2 ^ 62)) (place + 32)) (unless (nat_lt version (2 ^ 24)) (place + 40)) (numbers_sound place side h) in
     ltb-true version (2 ^ 24) (none_unless (nat_lt version (2 ^ 24)) (place + 40) last)
+
+-- a header that was read from a side without a fault is one that a side may have
+pub header_is : (place : ℕ) (side : List ℕ) → header_fault place side ≡ None → (header_of side).generation < 2 ^ 64 → IsHeader (header_of side)
+unfolding header_of
+header_is place side h fits =
+    let a = unless (nat_le 1 (header_generation side)) (place + 16) in
+    let b = unless (nat_lt (number_at 24 8 side) (2 ^ 38)) (place + 24) in
+    let c = unless (nat_lt (number_at 32 8 side) (2 ^ 62)) (place + 32) in
+    let d = unless (nat_lt (number_at 40 8 side) (2 ^ 24)) (place + 40) in
+    let numbers = numbers_sound place side h in
+    let rest = none_first a (b ∷ c ∷ d ∷ []) numbers in
+    let others = none_three b c d rest.1 in
+    record {
+      generation_least = leb-true 1 (header_generation side) (none_unless (nat_le 1 (header_generation side)) (place + 16) rest.0);
+      generation = fits;
+      base = ltb-true (number_at 24 8 side) (2 ^ 38) (none_unless (nat_lt (number_at 24 8 side) (2 ^ 38)) (place + 24) others.0);
+      llsn = ltb-true (number_at 32 8 side) (2 ^ 62) (none_unless (nat_lt (number_at 32 8 side) (2 ^ 62)) (place + 32) others.1);
+      version = version_fits place side h;
+    }
+
+-- a file without a fault of its length has all bytes of a store
+pub long_enough : (size : ℕ) → length_fault size ≡ None → store_length ≤ size
+long_enough size h =
+    let a = unless (nat_le 128 size) 0 in
+    let b = unless (nat_le store_length size) size in
+    let rest = none_first a (b ∷ []) h in
+    leb-true store_length size (none_unless (nat_le store_length size) size (none_first b [] rest.1).0)

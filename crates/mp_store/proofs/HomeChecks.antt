@@ -10,7 +10,7 @@ use Rattle.mp_store.specs.Checks.{only_if, first_of}
 use Rattle.mp_store.specs.Layout.{page_place, page_side}
 use Rattle.mp_store.specs.PageSides.{counts, outranks, side_in_force, side_fault, sides_fault, in_force_fault}
 use Rattle.mp_store.specs.StoreFiles.{home_fault, homes_fault, page_fault_in_force}
-use Rattle.mp_store.specs.Answers.{Finds}
+use Rattle.mp_store.specs.Answers.{StoreFinds}
 use Rattle.mp_store.proofs.HeaderChecks.{none_first}
 
 -- the faults of the sides, of which one may be in force
@@ -80,23 +80,23 @@ sound_in_force generation all number file lt h =
     in_force_sound generation (page_place number First) (page_side number First file) (page_side number Second file) (home_none generation all number file lt h)
 
 -- a refusal that finds a fault where there is none isn't NotStore
-pub none_found : (T U : Type 0) (fault : Option ℕ) (refusal : StoreRefusal) (other : Option ℕ) → fault ≡ None → Finds {T = T} fault (Err refusal) → Finds {T = U} other (Err refusal)
+pub none_found : (T U : Type 0) (fault : Option ℕ) (refusal : StoreRefusal) (other : Option ℕ) → fault ≡ None → StoreFinds {T = T} fault (Err refusal) → StoreFinds {T = U} other (Err refusal)
 none_found T U fault (NotStore place) other sound h = absurd (cc)
 none_found T U fault Disk other sound h = tt
 none_found T U fault Memory other sound h = h
 
 -- a refusal by the first of some checks, and one by a later one
-pub first_found : (T U : Type 0) (fault : Option ℕ) (checks : List (Option ℕ)) (refusal : StoreRefusal) → Finds {T = T} fault (Err refusal) → Finds {T = U} (first_of (fault ∷ checks)) (Err refusal)
+pub first_found : (T U : Type 0) (fault : Option ℕ) (checks : List (Option ℕ)) (refusal : StoreRefusal) → StoreFinds {T = T} fault (Err refusal) → StoreFinds {T = U} (first_of (fault ∷ checks)) (Err refusal)
 first_found T U fault checks (NotStore place) h = rw h refl
 first_found T U fault checks Disk h = tt
 first_found T U fault checks Memory h = h
 
-pub later_found : (T : Type 0) (fault : Option ℕ) (checks : List (Option ℕ)) (result : Result T StoreRefusal) → fault ≡ None → Finds (first_of checks) result → Finds (first_of (fault ∷ checks)) result
+pub later_found : (T : Type 0) (fault : Option ℕ) (checks : List (Option ℕ)) (result : Result T StoreRefusal) → fault ≡ None → StoreFinds (first_of checks) result → StoreFinds (first_of (fault ∷ checks)) result
 later_found T fault checks result sound h = rw sound h
 
 -- a refusal by the first home with a fault
 pub homes_found : (T U : Type 0) (generation number all : ℕ) (file : List ℕ) (refusal : StoreRefusal) → number < all → homes_fault generation number file ≡ None
-    → Finds {T = T} (home_fault generation number file) (Err refusal) → Finds {T = U} (homes_fault generation all file) (Err refusal)
+    → StoreFinds {T = T} (home_fault generation number file) (Err refusal) → StoreFinds {T = U} (homes_fault generation all file) (Err refusal)
 homes_found T U generation number all file (NotStore place) lt before h = homes_stop generation number all file place lt before h
 homes_found T U generation number all file Disk lt before h = tt
 homes_found T U generation number all file Memory lt before h = h

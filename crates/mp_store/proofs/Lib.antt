@@ -7,3 +7,6 @@ pub mod NewSides
 pub mod ShownAfter
 pub mod FreshFiles
 pub mod SoundAfter
+pub mod LaterShown
+pub mod FreshImages
+pub mod CleanFiles

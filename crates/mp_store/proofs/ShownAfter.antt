@@ -11,7 +11,7 @@ use Rattle.mp_store.specs.Layout.{part, is_open, pick, other, header_place, page
 use Rattle.mp_store.specs.HeaderSides.{header_generation, header_of, header_in}
 use Rattle.mp_store.specs.PageSides.{page_generation, page_llsn, page_in, counts, outranks, side_in_force, idle, shown_page}
 use Rattle.mp_store.specs.StoreFiles.{header_side_in_force, header_in_force, page_side_in_force, page_in_force}
-use Rattle.mp_store.specs.SideWrites.{SameOutside, SideIs, SideLeft, PageLeft, HeaderLeft, idle_place, idle_header_place, yields, kept_side}
+use Rattle.mp_store.specs.SideWrites.{SameOutside, SideIs, SideLeft, PageLeft, HeaderLeft, idle_place, idle_header_place, yields, kept_side, page_alone}
 use Rattle.mp_outside.specs.Disks.{written}
 use Rattle.mp_store.proofs.Outside.{part_same, part_written, written_outside}
 use Rattle.mp_store.proofs.NewSides.{Shows}
@@ -209,6 +209,73 @@ this_page store number generation page side old new Second idle_is shows kept is
       | inr new_ ↦ inr (new_.0, home ∙ new_.1)
     ]
 
+-- a home in any generation, where its first side was written, or its second
+first_any : (x y z : Bool) (p q : PageView) → (shown_by (force x y z) p q ≡ p) ⊎ (shown_by (force x y z) p q ≡ (if y then q else blank_page 0))
+unfolding force shown_by
+first_any true true true p q = inr refl
+first_any true true false p q = inl refl
+first_any true false z p q = inl refl
+first_any false true z p q = inr refl
+first_any false false z p q = inr refl
+
+second_any : (x y z : Bool) (p q : PageView) → (shown_by (force x y z) p q ≡ q) ⊎ (shown_by (force x y z) p q ≡ (if x then p else blank_page 0))
+unfolding force shown_by
+second_any true true true p q = inl refl
+second_any true true false p q = inr refl
+second_any true false z p q = inr refl
+second_any false true z p q = inl refl
+second_any false false z p q = inr refl
+
+first_alone : (y z : Bool) (p q : PageView) → shown_by (force false y z) p q ≡ (if y then q else blank_page 0)
+unfolding force shown_by
+first_alone true z p q = refl
+first_alone false z p q = refl
+
+second_alone : (x z : Bool) (p q : PageView) → shown_by (force x false z) p q ≡ (if x then p else blank_page 0)
+unfolding force shown_by
+second_alone true z p q = refl
+second_alone false z p q = refl
+
+any_first : (g : ℕ) (page : PageView) (side first second new : List ℕ) → page_in side ≡ page → SideIs side first new
+    → (page_of_home g new second ≡ page_of_home g first second) ⊎ ((page_of_home g new second ≡ page) ⊎ (page_of_home g new second ≡ page_alone g second))
+any_first g page side first second new reads (inl kept) = inl (ap (λ x. page_of_home g x second) kept)
+any_first g page side first second new reads (inr (inl shut)) =
+    inr (inr (home_is g new second ∙ ap (λ x. shown_by (force x (counts g second) (outranks second new)) (page_in new) (page_in second)) (shut_counts g new shut)
+    ∙ first_alone (counts g second) (outranks second new) (page_in new) (page_in second)))
+any_first g page side first second new reads (inr (inr whole)) = elim (first_any (counts g new) (counts g second) (outranks second new) (page_in new) (page_in second)) [
+  | inl this ↦ inr (inl (home_is g new second ∙ this ∙ ap page_in whole ∙ reads))
+  | inr that ↦ inr (inr (home_is g new second ∙ that))
+]
+
+any_second : (g : ℕ) (page : PageView) (side first second new : List ℕ) → page_in side ≡ page → SideIs side second new
+    → (page_of_home g first new ≡ page_of_home g first second) ⊎ ((page_of_home g first new ≡ page) ⊎ (page_of_home g first new ≡ page_alone g first))
+any_second g page side first second new reads (inl kept) = inl (ap (page_of_home g first) kept)
+any_second g page side first second new reads (inr (inl shut)) =
+    inr (inr (home_is g first new ∙ ap (λ x. shown_by (force (counts g first) x (outranks new first)) (page_in first) (page_in new)) (shut_counts g new shut)
+    ∙ second_alone (counts g first) (outranks new first) (page_in first) (page_in new)))
+any_second g page side first second new reads (inr (inr whole)) = elim (second_any (counts g first) (counts g new) (outranks new first) (page_in first) (page_in new)) [
+  | inl this ↦ inr (inl (home_is g first new ∙ this ∙ ap page_in whole ∙ reads))
+  | inr that ↦ inr (inr (home_is g first new ∙ that))
+]
+
+any_page : (g number : ℕ) (page : PageView) (side old new : List ℕ) (written : Side) → page_in side ≡ page
+    → page_side number (other written) new ≡ page_side number (other written) old → SideIs side (page_side number written old) (page_side number written new)
+    → (page_in_force g number new ≡ page_in_force g number old) ⊎ ((page_in_force g number new ≡ page) ⊎ (page_in_force g number new ≡ page_alone g (page_side number (other written) old)))
+any_page g number page side old new First reads kept is =
+    let home = file_home g number new ∙ ap (λ x. page_of_home g (page_side number First new) x) kept in
+    elim (any_first g page side (page_side number First old) (page_side number Second old) (page_side number First new) reads is) [
+      | inl same_ ↦ inl (home ∙ same_ ∙ sym (file_home g number old))
+      | inr (inl new_) ↦ inr (inl (home ∙ new_))
+      | inr (inr alone) ↦ inr (inr (home ∙ alone))
+    ]
+any_page g number page side old new Second reads kept is =
+    let home = file_home g number new ∙ ap (λ x. page_of_home g x (page_side number Second new)) kept in
+    elim (any_second g page side (page_side number First old) (page_side number Second old) (page_side number Second new) reads is) [
+      | inl same_ ↦ inl (home ∙ same_ ∙ sym (file_home g number old))
+      | inr (inl new_) ↦ inr (inl (home ∙ new_))
+      | inr (inr alone) ↦ inr (inr (home ∙ alone))
+    ]
+
 pub page_left : (store number generation : ℕ) (page : PageView) (side old new : List ℕ) → length side ≡ 1040 → Shows side generation page
     → SideLeft (idle_place store number old) side old new → PageLeft store number generation page old new
 page_left store number generation page side old new long shows left =
@@ -219,7 +286,9 @@ page_left store number generation page side old new long shows left =
     record {
       header = header_kept number written old new elsewhere;
       others = page_kept number written old new elsewhere;
+      sides = λ m s differ. part_same place (place + 1040) (page_place m s) 1040 old new elsewhere (pages_apart m number s written differ);
       page_is = this_page store number generation page side old new written refl shows (other_kept number written old new elsewhere) is;
+      later = λ g. any_page g number page side old new written shows.page_is (other_kept number written old new elsewhere) is;
     }
 
 -- ---- a page's side is whole

@@ -15,10 +15,10 @@ use Rattle.mp_store.specs.Checks.{unless, only_if, first_of}
 use Rattle.mp_store.specs.Layout.{part, is_open, other, header_place, page_place, header_side, page_side}
 use Rattle.mp_store.specs.HeaderSides.{IsHeader, header_body, header_of, header_generation, header_fault, headers_fault, header_in}
 use Rattle.mp_store.specs.PageSides.{page_body, page_generation, counts, side_fault, sides_fault, idle}
-use Rattle.mp_store.specs.StoreFiles.{header_side_in_force, header_in_force, page_side_in_force, page_in_force, home_fault, homes_fault, is_map, is_root, roots_fault, length_fault, first_fault}
+use Rattle.mp_store.specs.StoreFiles.{header_side_in_force, header_in_force, page_side_in_force, page_in_force, home_fault, homes_fault, is_map, is_root, map_fault, roots_fault, length_fault, store_fault}
 use Rattle.mp_store.specs.SideWrites.{SameOutside, SideIs, SideLeft, PageLeft, open_side, idle_place, idle_header_place}
 use Rattle.mp_store.proofs.HeaderChecks.{none_first, none_unless}
-use Rattle.mp_store.proofs.HomeChecks.{home_none}
+use Rattle.mp_store.proofs.HomeChecks.{home_none, sound_in_force}
 use Rattle.mp_store.proofs.Outside.{part_same}
 use Rattle.mp_store.proofs.NewSides.{page_shown, header_shown}
 use Rattle.mp_store.proofs.ShownAfter.{header_side_kept, other_kept, shut_counts, pages_apart, page_left, header_left, other_other, other_header, header_read, header_below}
@@ -30,8 +30,8 @@ pub record Sound (file : List ℕ) : Type 0 where
   pub homes : homes_fault (header_in_force file).generation 4096 file ≡ None
   pub roots : roots_fault (header_in_force file).generation file ≡ None
 
-pub sound_parts : (file : List ℕ) → first_fault file ≡ None → Sound file
-unfolding first_fault
+pub sound_parts : (file : List ℕ) → store_fault file ≡ None → Sound file
+unfolding store_fault
 sound_parts file h =
     let homes = homes_fault (header_in_force file).generation 4096 file in
     let roots = roots_fault (header_in_force file).generation file in
@@ -41,13 +41,13 @@ sound_parts file h =
     let c = none_first homes (roots ∷ []) b.1 in
     record { long = a.0; headers = b.0; homes = c.0; roots = (none_first roots [] c.1).0 }
 
-pub parts_sound : (file : List ℕ) → Sound file → first_fault file ≡ None
-unfolding first_fault
+pub parts_sound : (file : List ℕ) → Sound file → store_fault file ≡ None
+unfolding store_fault
 parts_sound file h = rw (h.long, h.headers, h.homes, h.roots) refl
 
 -- ---- homes
 
-each_home : (g all : ℕ) (file : List ℕ) → ((number : ℕ) → number < all → home_fault g number file ≡ None) → homes_fault g all file ≡ None
+pub each_home : (g all : ℕ) (file : List ℕ) → ((number : ℕ) → number < all → home_fault g number file ≡ None) → homes_fault g all file ≡ None
 unfolding homes_fault
 each_home g zero file each = refl
 each_home g (suc all) file each = rw (each_home g all file (λ number lt. each number (omega arith)), each all (omega arith)) refl
@@ -116,7 +116,7 @@ homes_left g number written side old new whole elsewhere is was = each_home g 40
 
 -- ---- pages 0 and 1
 
-roots_parts : (g : ℕ) (file : List ℕ) → roots_fault g file ≡ None → (is_map (page_in_force g 0 file) ≡ true) × (is_root (page_in_force g 1 file) ≡ true)
+pub roots_parts : (g : ℕ) (file : List ℕ) → roots_fault g file ≡ None → (is_map (page_in_force g 0 file) ≡ true) × (is_root (page_in_force g 1 file) ≡ true)
 unfolding roots_fault
 roots_parts g file h =
     let m = unless (is_map (page_in_force g 0 file)) 128 in
@@ -124,7 +124,7 @@ roots_parts g file h =
     let a = none_first m (r ∷ []) h in
     (none_unless (is_map (page_in_force g 0 file)) 128 a.0, none_unless (is_root (page_in_force g 1 file)) 2208 (none_first r [] a.1).0)
 
-parts_roots : (g : ℕ) (file : List ℕ) → is_map (page_in_force g 0 file) ≡ true → is_root (page_in_force g 1 file) ≡ true → roots_fault g file ≡ None
+pub parts_roots : (g : ℕ) (file : List ℕ) → is_map (page_in_force g 0 file) ≡ true → is_root (page_in_force g 1 file) ≡ true → roots_fault g file ≡ None
 unfolding roots_fault
 parts_roots g file m r = rw (m, r) refl
 
@@ -142,8 +142,8 @@ page_test test store n number generation page old new left was fits = elim (eqb_
 -- ---- a page's side was written
 
 pub page_sound : (header : Header) (number generation : ℕ) (page : PageView) (old new : List ℕ) → length (open_side (page_body generation page)) ≡ 1040 → 1 ≤ generation → generation < 2 ^ 64 → IsPage page
-    → SideLeft (idle_place header.generation number old) (open_side (page_body generation page)) old new → header ≡ header_in_force old → first_fault old ≡ None
-    → (number ≡ 0 → IsTrue (is_map page)) → (number ≡ 1 → IsTrue (is_root page)) → first_fault new ≡ None
+    → SideLeft (idle_place header.generation number old) (open_side (page_body generation page)) old new → header ≡ header_in_force old → store_fault old ≡ None
+    → (number ≡ 0 → IsTrue (is_map page)) → (number ≡ 1 → IsTrue (is_root page)) → store_fault new ≡ None
 page_sound header number generation page old new long least fits is_page left is sound fits_map fits_root =
     let store = header.generation in
     let side = open_side (page_body generation page) in
@@ -282,7 +282,7 @@ unfolding header_in_force
 generation_is side file = refl
 
 pub header_sound_after : (header : Header) (old new : List ℕ) → length (open_side (header_body header)) ≡ 64 → IsHeader header → SideLeft (idle_header_place old) (open_side (header_body header)) old new
-    → (header_in_force old).generation < header.generation → first_fault old ≡ None → homes_fault header.generation 4096 old ≡ None → roots_fault header.generation old ≡ None → first_fault new ≡ None
+    → (header_in_force old).generation < header.generation → store_fault old ≡ None → homes_fault header.generation 4096 old ≡ None → roots_fault header.generation old ≡ None → store_fault new ≡ None
 header_sound_after header old new long h left greater sound homes roots =
     let side = open_side (header_body header) in
     let in_force = header_side_in_force old in
@@ -312,3 +312,10 @@ header_sound_after header old new long h left greater sound homes roots =
       homes = rest.0;
       roots = rest.1;
     })
+
+-- the map of a file that is of the grammar has no fault
+pub map_sound : (file : List ℕ) → store_fault file ≡ None → map_fault (header_in_force file).generation file ≡ None
+map_sound file sound =
+    let parts = sound_parts file sound in
+    let g = (header_in_force file).generation in
+    rw (sound_in_force g 4096 0 file (omega arith) parts.homes, (roots_parts g file parts.roots).0) refl

@@ -9,10 +9,10 @@ use Rattle.mp_store.specs.SideWrites.{SameOutside, SideIs, SideLeft, open_side, 
 use Rattle.mp_store.proofs.Outside.{same, trans, wider, torn_outside, written_outside, part_written, part_same, written_over}
 
 -- a side is its gate and its body
-side_split : (place width : ℕ) (file : List ℕ) → place < length file → part place (suc width) file ≡ get_or file place 0 ∷ part (place + 1) width file
+pub side_split : (place width : ℕ) (file : List ℕ) → place < length file → part place (suc width) file ≡ get_or file place 0 ∷ part (place + 1) width file
 side_split place width file lt = ap (take (suc width)) (drop_more file place 0 lt)
 
-gate_of : (place width : ℕ) (file : List ℕ) → place < length file → get_or (part place (suc width) file) 0 0 ≡ get_or file place 0
+pub gate_of : (place width : ℕ) (file : List ℕ) → place < length file → get_or (part place (suc width) file) 0 0 ≡ get_or file place 0
 gate_of place width file lt = ap (λ side. get_or side 0 0) (side_split place width file lt)
 
 -- a gate by itself
@@ -92,7 +92,7 @@ pub closed_outside : (was_open : Bool) (place : ℕ) (file : List ℕ) → place
 closed_outside true place file lt = written_outside place (0 ∷ []) file (omega arith)
 closed_outside false place file lt = same place (place + 1) file
 
-gate_at : (place : ℕ) (file : List ℕ) → is_open (drop place file) ≡ eqb (get_or file place 0) 165
+pub gate_at : (place : ℕ) (file : List ℕ) → is_open (drop place file) ≡ eqb (get_or file place 0) 165
 gate_at place file = ap (λ byte. eqb byte 165) (get_or-drop place file 0 0 ∙ ap (λ n. get_or file n 0) (omega arith))
 
 pub closed_shut : (was_open : Bool) (place : ℕ) (file : List ℕ) → place < length file → was_open ≡ is_open (drop place file) → eqb (get_or (closed was_open place file) place 0) 165 ≡ false

@@ -7,3 +7,6 @@ pub mod Answers
 pub mod SideWrites
 pub mod FreshStores
 pub mod SmallSides
+pub mod OpenStores
+pub mod LaterSides
+pub mod CleanStores

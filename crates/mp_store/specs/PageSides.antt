@@ -50,7 +50,7 @@ shown_page (Some side) first second = page_in (pick side first second)
 
 -- the first fault of a page's bytes that lie at a place
 abbrev pub page_fault : ℕ → List ℕ → Option ℕ
-page_fault place bytes = fault_place (grammar.first_fault bytes)
+page_fault place bytes = fault_place (grammar.page_bytes_fault bytes)
   where
     fault_place : Option PageFault → Option ℕ
     fault_place None = None

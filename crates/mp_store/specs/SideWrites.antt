@@ -1,10 +1,11 @@
 -- What a crash may leave of a side that is being written, and what the store then shows.
 use Rattle.std.specs.Prelude.{◌≡◌, ◌≢◌, ◌⊎◌, ℕ, ◌+◌, ◌≤◌, ◌==◌, ◌&&◌, ◌||◌, not, nat_lt, if◌then◌else◌, Bool, false, IsTrue, List, [], ◌∷◌, length, take, drop}
 use Rattle.mp_outside.specs.Disks.{written, Torn}
-use Rattle.mp_cells.specs.PageView.{PageView}
+use Rattle.mp_cells.specs.PageView.{PageView, blank_page}
 use Rattle.mp_store.specs.declared.headers.Header.{Header}
+use Rattle.mp_store.specs.declared.sides.Side.{Side}
 use Rattle.mp_store.specs.Layout.{part, is_open, header_place, page_place, page_side, other}
-use Rattle.mp_store.specs.PageSides.{page_generation, page_llsn, counts, idle}
+use Rattle.mp_store.specs.PageSides.{page_generation, page_llsn, page_in, counts, idle}
 use Rattle.mp_store.specs.StoreFiles.{header_in_force, header_side_in_force, page_in_force, page_side_in_force}
 
 -- two files are the same but for the bytes from here to there
@@ -51,11 +52,17 @@ yields store generation llsn side =
 abbrev pub kept_side : ℕ → ℕ → List ℕ → List ℕ
 kept_side generation number file = page_side number (other (idle (page_side_in_force generation number file))) file
 
--- a store of a generation in which a page may have been written: it shows the header and the other pages as before, and this page as before or, where it counts, the new one
+-- the page that a home shows in a store of a generation by one of its sides alone
+abbrev pub page_alone : ℕ → List ℕ → PageView
+page_alone generation side = if counts generation side then page_in side else blank_page 0
+
+-- a store of a generation in which a page may have been written: it shows the header and the other pages as before, and this page as before or, where it counts, the new one; in any other generation it shows this page as before, the new one, or what the side that wasn't written shows alone
 pub record PageLeft (store number generation : ℕ) (page : PageView) (old new : List ℕ) : Type 0 where
   pub header : header_in_force new ≡ header_in_force old
   pub others : (g other : ℕ) → other ≢ number → page_in_force g other new ≡ page_in_force g other old
+  pub sides : (other : ℕ) (side : Side) → other ≢ number → page_side other side new ≡ page_side other side old
   pub page_is : (page_in_force store number new ≡ page_in_force store number old) ⊎ ((generation ≤ store) × (page_in_force store number new ≡ page))
+  pub later : (g : ℕ) → (page_in_force g number new ≡ page_in_force g number old) ⊎ ((page_in_force g number new ≡ page) ⊎ (page_in_force g number new ≡ page_alone g (kept_side store number old)))
 
 -- a store whose header may have been written: it shows all pages as before in a store of each generation, and the old header or the new one
 pub record HeaderLeft (header : Header) (old new : List ℕ) : Type 0 where

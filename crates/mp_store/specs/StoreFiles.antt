@@ -42,6 +42,10 @@ homes_fault generation (suc number) file = first_of (homes_fault generation numb
 abbrev pub is_map : PageView → Bool
 is_map page = is_of Meta page && bit_of page.bits 0 == 1 && bit_of page.bits 1 == 1
 
+-- the first fault of page 0: of its side in force, or that it is no such page
+abbrev pub map_fault : ℕ → List ℕ → Option ℕ
+map_fault generation file = first_of (page_fault_in_force generation 0 file ∷ unless (is_map (page_in_force generation 0 file)) 128 ∷ [])
+
 -- page 1 is a leaf or an inner page of all keys
 abbrev pub is_root : PageView → Bool
 is_root page = (is_of Leaf page || is_of Inner page) && page.low == 0 && page.high == 2 ^ 32
@@ -58,8 +62,8 @@ abbrev pub length_fault : ℕ → Option ℕ
 length_fault size = first_of (unless (nat_le 128 size) 0 ∷ unless (nat_le store_length size) size ∷ [])
 
 -- the first fault of a store file: in its length, its header, its homes in turn, or pages 0 and 1
-unfoldable pub first_fault : List ℕ → Option ℕ
-first_fault file = first_of (
+unfoldable pub store_fault : List ℕ → Option ℕ
+store_fault file = first_of (
     length_fault (length file)
     ∷ headers_fault (header_side First file) (header_side Second file)
     ∷ homes_fault (header_in_force file).generation 4096 file

@@ -5,9 +5,9 @@ ghost use Rattle.mp_outside.specs.Disks.{Quiet};
 ghost use Rattle.mp_cells.specs.PageView.{IsPage};
 ghost use Rattle.mp_store.specs.Checks.{unless, first_of};
 ghost use Rattle.mp_store.specs.Layout.{store_length, page_place, header_side, page_side, pick};
-ghost use Rattle.mp_store.specs.HeaderSides.{header_of, header_in, headers_fault};
-ghost use Rattle.mp_store.specs.StoreFiles.{header_in_force, home_fault, homes_fault, is_map, is_root, roots_fault, length_fault};
-ghost use Rattle.mp_store.specs.Answers.{Finds, HasCause};
+ghost use Rattle.mp_store.specs.HeaderSides.{IsHeader, header_of, header_in, headers_fault};
+ghost use Rattle.mp_store.specs.StoreFiles.{header_in_force, page_in_force, home_fault, homes_fault, is_map, is_root, map_fault, roots_fault, length_fault};
+ghost use Rattle.mp_store.specs.Answers.{StoreFinds, StoreCause, NeedsNoMemory};
 
 use crate::checks::unless;
 use crate::header_sides::{header_in, header_of, headers_fault};
@@ -27,8 +27,9 @@ const PAGES: u16 = 4096;
 
 // What a check found.
 fn found(fault: Option<u64>) -> Result<(), StoreRefusal>
-    ensures finds { Finds fault result }
-    ensures cause { (old : ℕ) (new : ℕ) → HasCause old new result }
+    ensures finds { StoreFinds fault result }
+    ensures cause { (old : ℕ) (new : ℕ) → StoreCause old new result }
+    ensures memory { NeedsNoMemory result }
 {
     match fault {
         None => Ok(()),
@@ -40,10 +41,11 @@ fn found(fault: Option<u64>) -> Result<(), StoreRefusal>
 pub(crate) fn check_length<D: Disk>(disk: &mut D) -> Result<(), StoreRefusal>
     ensures tells { D.tells disk.new ≡ D.tells disk.old }
     ensures quiet { Quiet (D.seen disk.old) (D.image disk.old) (D.seen disk.new) (D.image disk.new) }
-    ensures finds { IsTrue (D.tells disk.old) → Finds (length_fault (length (D.seen disk.old))) result }
+    ensures finds { IsTrue (D.tells disk.old) → StoreFinds (length_fault (length (D.seen disk.old))) result }
     ensures known { OnOk result (store_length ≤ D.known disk.new) }
     ensures count { D.faults disk.old ≤ D.faults disk.new }
-    ensures cause { HasCause (D.faults disk.old) (D.faults disk.new) result }
+    ensures cause { StoreCause (D.faults disk.old) (D.faults disk.new) result }
+    ensures memory { NeedsNoMemory result }
 {
     let size = disk.length()?;
     if size < 128 {
@@ -60,7 +62,8 @@ fn header_shown(first: &[u8], second: &[u8]) -> Header
     requires first { length first.now ≡ 64 }
     requires second { length second.now ≡ 64 }
     requires sound { headers_fault first.now second.now ≡ None }
-    ensures { result ≡ header_of (pick (header_in first.now second.now) first.now second.now) }
+    ensures header { result ≡ header_of (pick (header_in first.now second.now) first.now second.now) }
+    ensures is { IsHeader result }
 {
     match header_in(first, second) {
         Side::First => header_of(first),
@@ -73,12 +76,15 @@ fn header_shown(first: &[u8], second: &[u8]) -> Header
 pub(crate) fn check_headers<D: Disk>(disk: &mut D) -> Result<Header, StoreRefusal>
     ensures tells { D.tells disk.new ≡ D.tells disk.old }
     ensures quiet { Quiet (D.seen disk.old) (D.image disk.old) (D.seen disk.new) (D.image disk.new) }
+    ensures is { IfOk result (λ header. IsHeader header) }
     ensures header { IsTrue (D.tells disk.old) → IfOk result (λ header. header ≡ header_in_force (D.seen disk.old)) }
     ensures finds { IsTrue (D.tells disk.old)
-        → Finds (headers_fault (header_side Side.First (D.seen disk.old)) (header_side Side.Second (D.seen disk.old))) result }
+        → StoreFinds
+        (headers_fault (header_side Side.First (D.seen disk.old)) (header_side Side.Second (D.seen disk.old))) result }
     ensures known { D.known disk.new ≡ D.known disk.old }
     ensures count { D.faults disk.old ≤ D.faults disk.new }
-    ensures cause { store_length ≤ D.known disk.old → HasCause (D.faults disk.old) (D.faults disk.new) result }
+    ensures cause { store_length ≤ D.known disk.old → StoreCause (D.faults disk.old) (D.faults disk.new) result }
+    ensures memory { NeedsNoMemory result }
 {
     let home = read_headers(disk)?;
     let (first, second) = home.split_at(64);
@@ -93,10 +99,11 @@ fn check_home<D: Disk>(disk: &mut D, generation: u64, number: u16) -> Result<(),
     requires { number < 4096 }
     ensures tells { D.tells disk.new ≡ D.tells disk.old }
     ensures quiet { Quiet (D.seen disk.old) (D.image disk.old) (D.seen disk.new) (D.image disk.new) }
-    ensures finds { IsTrue (D.tells disk.old) → Finds (home_fault generation number (D.seen disk.old)) result }
+    ensures finds { IsTrue (D.tells disk.old) → StoreFinds (home_fault generation number (D.seen disk.old)) result }
     ensures known { D.known disk.new ≡ D.known disk.old }
     ensures count { D.faults disk.old ≤ D.faults disk.new }
-    ensures cause { store_length ≤ D.known disk.old → HasCause (D.faults disk.old) (D.faults disk.new) result }
+    ensures cause { store_length ≤ D.known disk.old → StoreCause (D.faults disk.old) (D.faults disk.new) result }
+    ensures memory { NeedsNoMemory result }
 {
     let home = read_home(disk, number)?;
     let (first, second) = home.split_at(1040);
@@ -107,10 +114,11 @@ fn check_home<D: Disk>(disk: &mut D, generation: u64, number: u16) -> Result<(),
 pub(crate) fn check_homes<D: Disk>(disk: &mut D, generation: u64) -> Result<(), StoreRefusal>
     ensures tells { D.tells disk.new ≡ D.tells disk.old }
     ensures quiet { Quiet (D.seen disk.old) (D.image disk.old) (D.seen disk.new) (D.image disk.new) }
-    ensures finds { IsTrue (D.tells disk.old) → Finds (homes_fault generation 4096 (D.seen disk.old)) result }
+    ensures finds { IsTrue (D.tells disk.old) → StoreFinds (homes_fault generation 4096 (D.seen disk.old)) result }
     ensures known { D.known disk.new ≡ D.known disk.old }
     ensures count { D.faults disk.old ≤ D.faults disk.new }
-    ensures cause { store_length ≤ D.known disk.old → HasCause (D.faults disk.old) (D.faults disk.new) result }
+    ensures cause { store_length ≤ D.known disk.old → StoreCause (D.faults disk.old) (D.faults disk.new) result }
+    ensures memory { NeedsNoMemory result }
 {
     for number in 0..PAGES {
         check_home(disk, generation, number)?;
@@ -124,6 +132,31 @@ fn is_map(page: &Page) -> bool
     match page.kind() {
         Kind::Meta => page.taken(0) && page.taken(1),
         _ => false,
+    }
+}
+
+/// The map of the taken pages of a store of a generation: page 0, where it is such a page.
+#[tactic(auto, unfolding(crate::specs::StoreFiles::page_in_force))]
+pub(crate) fn read_map_in_force<D: Disk>(
+    disk: &mut D,
+    generation: u64,
+) -> Result<Page, StoreRefusal>
+    ensures tells { D.tells disk.new ≡ D.tells disk.old }
+    ensures quiet { Quiet (D.seen disk.old) (D.image disk.old) (D.seen disk.new) (D.image disk.new) }
+    ensures is { IfOk result (λ map. IsPage map) }
+    ensures map { IfOk result (λ map. IsTrue (is_map map)) }
+    ensures page { IsTrue (D.tells disk.old) → IfOk result (λ map. map ≡ page_in_force generation 0 (D.seen disk.old)) }
+    ensures finds { IsTrue (D.tells disk.old) → StoreFinds (map_fault generation (D.seen disk.old)) result }
+    ensures known { D.known disk.new ≡ D.known disk.old }
+    ensures count { D.faults disk.old ≤ D.faults disk.new }
+    ensures cause { store_length ≤ D.known disk.old → StoreCause (D.faults disk.old) (D.faults disk.new) result }
+    ensures memory { NeedsNoMemory result }
+{
+    let map = read_in_force(disk, generation, 0)?;
+    if is_map(&map) {
+        Ok(map)
+    } else {
+        Err(StoreRefusal::NotStore { place: 128 })
     }
 }
 
@@ -152,10 +185,11 @@ pub(crate) fn check_roots<D: Disk>(disk: &mut D, generation: u64) -> Result<(), 
     ensures tells { D.tells disk.new ≡ D.tells disk.old }
     ensures quiet { Quiet (D.seen disk.old) (D.image disk.old) (D.seen disk.new) (D.image disk.new) }
     ensures finds { IsTrue (D.tells disk.old) → homes_fault generation 4096 (D.seen disk.old) ≡ None
-        → Finds (roots_fault generation (D.seen disk.old)) result }
+        → StoreFinds (roots_fault generation (D.seen disk.old)) result }
     ensures known { D.known disk.new ≡ D.known disk.old }
     ensures count { D.faults disk.old ≤ D.faults disk.new }
-    ensures cause { store_length ≤ D.known disk.old → HasCause (D.faults disk.old) (D.faults disk.new) result }
+    ensures cause { store_length ≤ D.known disk.old → StoreCause (D.faults disk.old) (D.faults disk.new) result }
+    ensures memory { NeedsNoMemory result }
 {
     let map = read_in_force(disk, generation, 0)?;
     let root = read_in_force(disk, generation, 1)?;

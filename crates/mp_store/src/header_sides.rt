@@ -18,7 +18,8 @@ const MARK: [u8; 15] = [77, 80, 83, 84, 79, 82, 69, 1, 0, 0, 0, 0, 0, 0, 0];
 pub(crate) fn header_of(side: &[u8]) -> Header
     requires long { length side.now ≡ 64 }
     requires version { (header_of side.now).version < 2 ^ 24 }
-    ensures { result ≡ header_of side.now }
+    ensures header { result ≡ header_of side.now }
+    ensures fits { result.generation < 2 ^ 64 }
 {
     Header {
         generation: generation_of(side),

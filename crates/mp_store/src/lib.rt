@@ -8,18 +8,21 @@ mod examples;
 mod fresh;
 mod header_sides;
 mod headers;
+mod later;
+mod opening;
 mod page_sides;
 mod reading;
 mod refusals;
 mod sides;
 mod store;
+mod updates;
 mod writing;
 
-pub use examples::law_store_examples;
+pub use examples::{law_clean_stores, law_no_later, law_store_examples};
 pub use fresh::init;
 pub use headers::Header;
 pub use refusals::StoreRefusal;
-pub use store::Store;
+pub use store::{Store, Unopened};
 
 #[cfg(test)]
 mod tests;

@@ -8,6 +8,7 @@ ghost use Rattle.mp_page.specs.Grammar as grammar;
 ghost use Rattle.mp_store.specs.Checks.{only_if};
 ghost use Rattle.mp_store.specs.Layout.{is_open, pick};
 ghost use Rattle.mp_store.specs.PageSides.{page_body, page_generation, page_llsn, page_in, counts, outranks, side_in_force, idle, shown_page, page_fault, side_fault, sides_fault, in_force_fault};
+ghost use Rattle.mp_store.specs.OpenStores.{is_later};
 
 use crate::checks::fixed_fault;
 use crate::sides::{Side, is_open};
@@ -34,6 +35,14 @@ fn counts(generation: u64, side: &[u8]) -> bool
     ensures { result ≡ counts generation side.now }
 {
     is_open(side) && generation_of(side) <= generation
+}
+
+/// Whether a side is open and of a later generation than this one.
+pub(crate) fn is_later(generation: u64, side: &[u8]) -> bool
+    requires { length side.now ≡ 1040 }
+    ensures { result ≡ is_later generation side.now }
+{
+    is_open(side) && generation < generation_of(side)
 }
 
 // Whether one side's pair of generation and LLSN is greater than the other's.
@@ -176,6 +185,7 @@ pub(crate) fn shown_page(
     requires second { length second.now ≡ 1040 }
     requires fits { place + 2 ^ 34 < 2 ^ 64 }
     ensures page { IfOk result (λ page. page ≡ shown_page (side_in_force generation first.now second.now) first.now second.now) }
+    ensures is { IfOk result (λ page. IsPage page) }
     ensures sound { IfOk result (λ _. in_force_fault (side_in_force generation first.now second.now) place first.now second.now ≡ None) }
     ensures fault { IfErr result (λ fault. in_force_fault (side_in_force generation first.now second.now) place first.now second.now ≡ Some fault) }
 {

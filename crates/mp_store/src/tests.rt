@@ -1,5 +1,5 @@
-//! Stops at each device call of `init`, `write_page` and `flip_header` with each choice of a crash, and the places of
-//! faults.
+//! Stops at each device call of `init`, `write_page`, `flip_header` and `close_later` with each choice of a crash, and
+//! the places of faults.
 
 use crate::*;
 use mp_model::Memory;
@@ -11,8 +11,8 @@ use std::test::Fail;
 /// The length of a store file.
 const LENGTH: u64 = 8_519_808;
 
-/// The device calls of `init` before the first side's body is written: a cut, a write, and a sync.
-const CLEARING: u64 = 3;
+/// The device calls of `init` up to the sync that makes its zeros safe: a cut, 2,017 writes, and the sync.
+const CLEARING: u64 = 2019;
 
 /// A disk with a fresh store.
 fn fresh(alloc: Global) -> Result<MemDisk, Memory> {
@@ -30,30 +30,60 @@ fn blank_at(llsn: u64) -> Page {
     page
 }
 
+/// The byte at a place, or 0 where it can't be read.
+fn byte_of(disk: &mut MemDisk, place: u32) -> u8 {
+    let mut byte = [0];
+    let _ = read_exactly(disk, u64::from(place), &mut byte);
+    byte[0]
+}
+
+/// The generation of the store on a disk, or why it isn't one.
+fn generation_of(alloc: Global, disk: &mut MemDisk) -> Result<u64, StoreRefusal> {
+    match Store::open(alloc, disk) {
+        Ok(store) => Ok(store.header().generation),
+        Err(unopened) => Err(unopened.refusal),
+    }
+}
+
 #[test]
-fn a_stopped_init_leaves_no_store_or_a_fresh_one(rt: HostRuntime) -> Result<(), Fail> {
-    let mut disk = MemDisk::new(rt.alloc(), b"", LENGTH, &[])?;
-    for passes in 0..CLEARING + 13 {
+fn a_stopped_init_leaves_no_open_header_or_a_fresh_store(rt: HostRuntime) -> Result<(), Fail> {
+    // The disk holds a store with an open header before each `init`.
+    let mut disk = fresh(rt.alloc())?;
+    for passes in CLEARING..CLEARING + 10 {
         for choice in 0..4 {
-            assert!(rt; disk.cut(0).is_ok() && disk.sync().is_ok());
             let mut fuse = FuseDisk::new(disk, passes);
             let done = init(&mut fuse).is_ok();
             disk = fuse.into_disk();
             disk.crash(choice);
-            assert_eq!(rt; done, CLEARING + 12 <= passes);
-            match Store::open(&mut disk) {
-                Ok(store) => {
-                    assert!(rt; CLEARING + 10 < passes);
-                    assert_eq!(rt; store.header().generation, 1);
-                }
-                Err(refusal) => {
-                    assert!(rt; matches!(refusal, StoreRefusal::NotStore { .. }));
-                    assert!(rt; !done);
-                }
-            }
+            assert_eq!(rt; done, CLEARING + 9 <= passes);
+            let opened = byte_of(&mut disk, 0) == 165;
+            // The header's gate is opened last, behind those of both pages.
+            let pages = byte_of(&mut disk, 128) == 165 && byte_of(&mut disk, 2208) == 165;
+            assert!(rt; !opened || pages && CLEARING + 7 < passes);
+            let left = generation_of(rt.alloc(), &mut disk);
+            let expected = if opened {
+                Ok(1)
+            } else {
+                Err(StoreRefusal::NotStore { place: 0 })
+            };
+            assert_eq!(rt; left, expected);
         }
     }
     Ok(())
+}
+
+/// The device calls of opening a store: a sync, the length, and reads of the header, all homes, and pages 0 and 1 again.
+const OPENING: u64 = 4101;
+
+/// Writes a page to the store of a disk, with a generation. It answers whether it is written; then the store is open.
+fn write<D: Disk>(alloc: Global, disk: &mut D, page: &Page, generation: u64) -> bool {
+    match Store::open(alloc, disk) {
+        Ok(mut store) => {
+            let done = 1 <= generation && store.write_page(5, page, generation).is_ok();
+            done && store.is_open()
+        }
+        Err(_) => false,
+    }
 }
 
 #[test]
@@ -63,29 +93,26 @@ fn a_stopped_write_leaves_the_old_page_or_the_new_one(rt: HostRuntime) -> Result
     for passes in 0..8 {
         for choice in 0..4 {
             let next = llsn.saturating_add(1);
-            let opened = Store::open(&mut disk);
-            let mut fuse = FuseDisk::new(disk, passes);
-            let written = match opened {
-                Ok(store) => store.write_page(&mut fuse, 5, &blank_at(next), 1).is_ok(),
-                Err(_) => false,
-            };
+            let mut fuse = FuseDisk::new(disk, OPENING + passes);
+            let written = write(rt.alloc(), &mut fuse, &blank_at(next), 1);
             disk = fuse.into_disk();
             disk.crash(choice);
-            let left = llsn_of(&mut disk, 5);
+            let left = llsn_of(rt.alloc(), &mut disk);
             assert!(rt; left == Some(next) || left == Some(llsn) && !written);
+            assert!(rt; written == (7 <= passes) || passes == 5 || passes == 6);
             llsn = left.unwrap_or(0);
         }
     }
     Ok(())
 }
 
-/// The LLSN of a page of a store.
-fn llsn_of(disk: &mut MemDisk, number: u16) -> Option<u64> {
-    let store = Store::open(disk).ok()?;
-    if 4096 <= number {
-        return None;
-    }
-    let page = store.read_page(disk, number).ok()?;
+/// The LLSN of page 5 of a store.
+fn llsn_of(alloc: Global, disk: &mut MemDisk) -> Option<u64> {
+    let mut store = match Store::open(alloc, disk) {
+        Ok(store) => store,
+        Err(_) => return None,
+    };
+    let page = store.read_page(5).ok()?;
     Some(page.llsn())
 }
 
@@ -96,15 +123,11 @@ fn a_stopped_flip_leaves_the_old_header_or_the_new_one(rt: HostRuntime) -> Resul
     for passes in 0..8 {
         for choice in 0..4 {
             let next = generation.saturating_add(1);
-            let opened = Store::open(&mut disk);
-            let mut fuse = FuseDisk::new(disk, passes);
-            let flipped = match opened {
-                Ok(mut store) => flip(&mut store, &mut fuse),
-                Err(_) => false,
-            };
+            let mut fuse = FuseDisk::new(disk, OPENING + passes);
+            let flipped = flip(rt.alloc(), &mut fuse);
             disk = fuse.into_disk();
             disk.crash(choice);
-            let left = Store::open(&mut disk).map(|store| store.header().generation);
+            let left = generation_of(rt.alloc(), &mut disk);
             assert!(rt; left == Ok(next) || left == Ok(generation) && !flipped);
             generation = left.unwrap_or(0);
         }
@@ -112,8 +135,12 @@ fn a_stopped_flip_leaves_the_old_header_or_the_new_one(rt: HostRuntime) -> Resul
     Ok(())
 }
 
-/// Flips to the next generation.
-fn flip<D: Disk>(store: &mut Store, disk: &mut D) -> bool {
+/// Flips the store of a disk to the next generation.
+fn flip<D: Disk>(alloc: Global, disk: &mut D) -> bool {
+    let mut store = match Store::open(alloc, disk) {
+        Ok(store) => store,
+        Err(_) => return false,
+    };
     let generation = store.header().generation;
     if 100 < generation {
         return false;
@@ -124,7 +151,34 @@ fn flip<D: Disk>(store: &mut Store, disk: &mut D) -> bool {
         llsn: 9,
         version: 1,
     };
-    store.flip_header(disk, &header).is_ok()
+    store.flip_header(&header).is_ok() && store.is_open()
+}
+
+#[test]
+fn closing_a_later_side_keeps_the_page_in_force(rt: HostRuntime) -> Result<(), Fail> {
+    let mut disk = fresh(rt.alloc())?;
+    // The side of page 5 that is written first lies at 10,528; it is one of generation 2 in a store of generation 1.
+    assert!(rt; write(rt.alloc(), &mut disk, &blank_at(7), 2));
+    for passes in 0..3 {
+        for choice in 0..4 {
+            let mut fuse = FuseDisk::new(disk, OPENING + 4096 + passes);
+            let closed = close(rt.alloc(), &mut fuse);
+            disk = fuse.into_disk();
+            disk.crash(choice);
+            assert!(rt; llsn_of(rt.alloc(), &mut disk) == Some(0));
+            assert!(rt; !closed || byte_of(&mut disk, 10_528) != 165);
+            assert!(rt; closed || passes < 2);
+        }
+    }
+    Ok(())
+}
+
+/// Closes the later sides of the store of a disk.
+fn close<D: Disk>(alloc: Global, disk: &mut D) -> bool {
+    match Store::open(alloc, disk) {
+        Ok(mut store) => store.close_later().is_ok() && store.is_open(),
+        Err(_) => false,
+    }
 }
 
 #[test]
@@ -155,7 +209,7 @@ fn a_fault_is_found_at_its_place(rt: HostRuntime) -> Result<(), Fail> {
         let mut was = [0];
         assert!(rt; read_exactly(&mut disk, at, &mut was).is_ok());
         assert!(rt; disk.write_at(at, &[byte]).is_ok());
-        let refused = Store::open(&mut disk).map(|store| store.header().generation);
+        let refused = generation_of(rt.alloc(), &mut disk);
         assert_eq!(rt; refused, Err(StoreRefusal::NotStore { place }));
         assert!(rt; disk.write_at(at, &was).is_ok());
     }
@@ -167,7 +221,7 @@ fn a_short_file_is_no_store(rt: HostRuntime) -> Result<(), Fail> {
     let mut disk = fresh(rt.alloc())?;
     for (size, place) in [(LENGTH - 1, LENGTH - 1), (128, 128), (127, 0), (0, 0)] {
         assert!(rt; disk.cut(size).is_ok());
-        let refused = Store::open(&mut disk).map(|store| store.header().generation);
+        let refused = generation_of(rt.alloc(), &mut disk);
         assert_eq!(rt; refused, Err(StoreRefusal::NotStore { place }));
     }
     Ok(())

@@ -43,7 +43,8 @@ pub(crate) fn write_side<D: Disk>(
     was_open: bool,
     body: &[u8],
 ) -> Result<(), Failed>
-    requires { place + 1 + length body.now < 2 ^ 64 }
+    requires some { 1 ≤ length body.now }
+    requires fits { place + 1 + length body.now < 2 ^ 64 }
     ensures tells { D.tells disk.new ≡ D.tells disk.old }
     ensures done { IsTrue (D.tells disk.old) → place + 1 + length body.now ≤ length (D.seen disk.old)
         → OnOk result (D.seen disk.new ≡ written place (open_side body.now) (D.seen disk.old)) }

@@ -3,7 +3,7 @@ use Rattle.std.proofs.Common.{ℕ, List, IsTrue, Err, refl, subst, ◌∙◌, ar
 use Rattle.std.proofs.lemmas.Result.{err_from_is_err_and}
 use Rattle.mp_outside.proofs.Quiets.{Quiet-refl, Quiet-trans}
 use Rattle.mp_store.specs.StoreFiles.{home_fault, homes_fault}
-use Rattle.mp_store.specs.Answers.{Finds}
+use Rattle.mp_store.specs.Answers.{StoreFinds}
 use Rattle.mp_store.proofs.HomeChecks.{homes_more, homes_found}
 use Rattle.mp_store.proofs.checking.check_homes.Goals as goal
 
@@ -27,6 +27,6 @@ returns-in_err-check_home-clause-finds g c = λ tells.
     let before = c.loop-number.invariant in
     let still : IsTrue (g.D.Disk.tells c.loop-number.disk) = rw (before.tells) tells in
     let fault = c.in_err-check_home.field-0.0 in
-    let found = subst (λ (file : List ℕ). Finds {T = Unit {0}} (home_fault c.args.generation c.loop-number.number file) (Err fault)) before.quiet.same (c.in_err-check_home.ensures.finds still) in
+    let found = subst (λ (file : List ℕ). StoreFinds {T = Unit {0}} (home_fault c.args.generation c.loop-number.number file) (Err fault)) before.quiet.same (c.in_err-check_home.ensures.finds still) in
     let returned = err_from_is_err_and c.from_residual.result c.from_residual.ensures.1 in
     rw (returned.1, returned.2) (homes_found (Unit {0}) (Unit {0}) c.args.generation c.loop-number.number 4096 (g.D.Disk.seen c.args.disk.now) fault c.loop-number-test.true (before.sound tells) found)

@@ -1,9 +1,11 @@
 -- The definitions compute.
-use Rattle.std.proofs.Common.{refl}
+use Rattle.std.proofs.Common.{refl, sym, inl, inr}
+use Rattle.std.proofs.lemmas.Bool.{true≢false}
 use Rattle.mp_cells.specs.Numbers.{number_at}
 use Rattle.mp_store.specs.HeaderSides.{header_fault}
 use Rattle.mp_store.specs.PageSides.{side_in_force}
-use Rattle.mp_store.specs.StoreFiles.{first_fault}
+use Rattle.mp_store.specs.StoreFiles.{store_fault}
+use Rattle.mp_store.proofs.FreshImages.{none_is_no_store}
 use Rattle.mp_store.proofs.examples.law_store_examples.Goals as goal
 
 pub returns-clause-greater : goal.returns-clause-greater
@@ -35,13 +37,33 @@ unfolding number_at
 returns-clause-first c = refl
 
 pub returns-clause-empty : goal.returns-clause-empty
-unfolding first_fault
+unfolding store_fault
 returns-clause-empty c = refl
 
 pub returns-clause-short : goal.returns-clause-short
-unfolding first_fault
+unfolding store_fault
 returns-clause-short c = λ file. λ long. rw long refl
 
 pub returns-clause-mark : goal.returns-clause-mark
 unfolding header_fault
 returns-clause-mark c = λ rest. refl
+
+pub returns-clause-is_later : goal.returns-clause-is_later
+unfolding number_at
+returns-clause-is_later c = refl
+
+pub returns-clause-in_time : goal.returns-clause-in_time
+unfolding number_at
+returns-clause-in_time c = refl
+
+pub returns-clause-gate : goal.returns-clause-gate
+unfolding number_at
+returns-clause-gate c = inr (refl, refl)
+
+pub returns-clause-counting : goal.returns-clause-counting
+unfolding number_at
+returns-clause-counting c (inl same) = absurd (cc)
+returns-clause-counting c (inr (later, rest)) = absurd (true≢false (sym later))
+
+pub returns-clause-no_header : goal.returns-clause-no_header
+returns-clause-no_header c = λ file. λ none. λ sound. none_is_no_store file none sound
