@@ -2,7 +2,7 @@
 //! draws and publishes.
 
 use mp_model::Memory;
-use mp_trx_fusion::trial::{Together, commit_alone, commit_together};
+use mp_trials::{Together, commit_alone, commit_together};
 use std::alloc::Global;
 use std::thread::Threads;
 

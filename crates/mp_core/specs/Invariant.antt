@@ -1,15 +1,15 @@
 -- The joint invariant, and the openings from which it holds.
 use Rattle.std.specs.Prelude.{◌+◌, ◌^◌, ◌<◌}
-use Rattle.mp_core_trx.specs.World.{IsFair as IsTrxFair}
-use Rattle.mp_core_trx.specs.Invariant.{Inv as TrxInv}
+use Rattle.mp_core_trx.specs.World.{TrxNumbersFit}
+use Rattle.mp_core_trx.specs.Invariant.{TrxInv}
 use Rattle.mp_core.specs.declared.opening.CoreOpening.{CoreOpening}
 use Rattle.mp_core.specs.World.{CoreWorld}
 
 -- The numbers of the run stay within their formats
-pub record IsFair (opening : CoreOpening) : Type 0 where
-  pub trx : IsTrxFair opening.trx
+pub record NumbersFit (opening : CoreOpening) : Type 0 where
+  pub trx : TrxNumbersFit opening.trx
   pub llsns_fit : opening.trx.base.llsn + 240000 < 2 ^ 62
 
 -- What holds in every world that can be reached: each component's invariant
-pub record Inv (opening : CoreOpening) (w : CoreWorld) : Type 0 where
+pub record CoreInv (opening : CoreOpening) (w : CoreWorld) : Type 0 where
   pub trx : TrxInv opening.trx w.trx

@@ -6,14 +6,12 @@ mod event;
 mod laws;
 mod opening;
 mod part;
-mod system;
 mod words;
 
 pub use event::CoreEvent;
 pub use laws::law_inv;
 pub use opening::CoreOpening;
 pub use part::CorePart;
-pub use system::{Core, Frame};
 pub use words::{
     DOWN_WORDS, DURABLE_WORDS, FLAG_WORDS, LEAST_WORDS, LLSN_WORDS, LOCK_WORDS, REQUEST_WORDS,
     SLOT_WORDS, TSO_WORD, TURN_WORDS, WORDS,

@@ -1,24 +1,31 @@
-//! Where the words of the shared table lie. `docs/architecture.md` has the picture.
+//! Where the words of the shared table lie, each region behind the one before. `docs/architecture.md` has the picture.
 
-/// The timestamp oracle.
+use mp_core_trx::SLOTS;
+
+/// How many primaries have words, whether so many run or not.
+const PRIMARIES: usize = 8;
+/// How many pages have words.
+const PAGES: usize = 4_096;
+
+/// The timestamp oracle (TSO).
 pub const TSO_WORD: usize = 0;
-/// The transaction slots, 5,032 for each of 8 primaries.
-pub const SLOT_WORDS: usize = 1;
-/// The locks of the 4,096 pages. From here on no step reads or writes a word yet.
-pub const LOCK_WORDS: usize = 40_257;
-/// The LLSNs of the 8 primaries.
-pub const LLSN_WORDS: usize = 44_353;
+/// The transaction slots, `SLOTS` for each primary.
+pub const SLOT_WORDS: usize = TSO_WORD + 1;
+/// The locks of the pages. From here on no step reads or writes a word yet.
+pub const LOCK_WORDS: usize = SLOT_WORDS + PRIMARIES * SLOTS as usize;
+/// The LLSNs of the primaries.
+pub const LLSN_WORDS: usize = LOCK_WORDS + PAGES;
 /// The LLSNs up to which their logs are forced.
-pub const DURABLE_WORDS: usize = 44_361;
+pub const DURABLE_WORDS: usize = LLSN_WORDS + PRIMARIES;
 /// Which of them are down.
-pub const DOWN_WORDS: usize = 44_369;
+pub const DOWN_WORDS: usize = DURABLE_WORDS + PRIMARIES;
 /// Who has the frames of the pages.
-pub const TURN_WORDS: usize = 44_377;
+pub const TURN_WORDS: usize = DOWN_WORDS + PRIMARIES;
 /// Who asks for a page's lock.
-pub const REQUEST_WORDS: usize = 48_473;
+pub const REQUEST_WORDS: usize = TURN_WORDS + PAGES;
 /// Whose copies of a page are valid.
-pub const FLAG_WORDS: usize = 52_569;
-/// The least views of the 8 primaries.
-pub const LEAST_WORDS: usize = 56_665;
+pub const FLAG_WORDS: usize = REQUEST_WORDS + PAGES;
+/// The least views of the primaries.
+pub const LEAST_WORDS: usize = FLAG_WORDS + PAGES;
 /// How many words there are.
-pub const WORDS: usize = 56_673;
+pub const WORDS: usize = LEAST_WORDS + PRIMARIES;

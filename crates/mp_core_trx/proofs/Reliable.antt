@@ -7,29 +7,29 @@ use Rattle.mp_core_trx.specs.declared.slot.Shown.{Shown}
 use Rattle.mp_core_trx.specs.declared.part.Begun.{Begun}
 use Rattle.mp_core_trx.specs.declared.part.Draw.{Draw}
 use Rattle.mp_core_trx.specs.declared.part.SlotLoad.{SlotLoad}
-use Rattle.mp_core_trx.specs.Lists.{IsIn, pushed}
-use Rattle.mp_core_trx.specs.Words.{shows, word_of, shown_of}
-use Rattle.mp_core_trx.specs.Parts.{trx, begin_of, draw_of, unused, HasBegun}
+use Rattle.mp_machine.specs.Lists.{IsIn, pushed}
+use Rattle.mp_core_trx.specs.Words.{shows, word_showing, shown_of}
+use Rattle.mp_core_trx.specs.Parts.{trx, begun_of, draw_of, unused, HasBegun}
 use Rattle.mp_core_trx.specs.Events.{load_of}
-use Rattle.mp_core_trx.specs.World.{IsFair}
-use Rattle.mp_core_trx.specs.Invariant.{Ids, Sight, IsRight, IsReliable, Loads}
-use Rattle.mp_core_trx.proofs.Lists.{in_pushed, in_more, each_pushed}
+use Rattle.mp_core_trx.specs.World.{TrxNumbersFit}
+use Rattle.mp_core_trx.specs.Invariant.{Ids, Sight, SlotIsRight, IsReliable, Loads}
+use Rattle.mp_machine.proofs.Lists.{in_pushed, in_more, each_pushed}
 use Rattle.mp_core_trx.proofs.Words.{shown_again}
 use Rattle.mp_core_trx.proofs.Ids.{begun_more}
 use Rattle.mp_core_trx.proofs.Sight.{greatest_drawn}
 use Rattle.mp_core_trx.proofs.SlotWords.{two_tags}
 
 -- the version that a slot shows fits its bits
-pub version_fits : (o : TrxOpening) → IsFair o → (begun : ℕ → List Begun) → Ids o begun → (drew : List Draw) (n slot : ℕ) (x : Shown) → IsRight n slot (begun n) drew x → x.version < 2 ^ 24
+pub version_fits : (o : TrxOpening) → TrxNumbersFit o → (begun : ℕ → List Begun) → Ids o begun → (drew : List Draw) (n slot : ℕ) (x : Shown) → SlotIsRight n slot (begun n) drew x → x.version < 2 ^ 24
 version_fits o fair begun i drew n slot x r =
     let fits = fair.versions_fit in
     ⊎_elim
     (λ (u : x ≡ unused). let zero : x.version ≡ 0 = ap (λ (y : Shown). y.version) u in omega arith)
-    (λ (h : HasBegun (begun n) (trx n slot x.version)). let range = (i.versions n (begin_of (trx n slot x.version) h.0) h.1).1 in omega arith)
+    (λ (h : HasBegun (begun n) (trx n slot x.version)). let range = (i.versions n (begun_of (trx n slot x.version) h.0) h.1).1 in omega arith)
     r.known
 
 -- what a slot shows now may be relied on
-pub reliable_now : (n slot after : ℕ) (begun : List Begun) (drew : List Draw) (x : Shown) → x.version < 2 ^ 24 → IsRight n slot begun drew x → IsReliable begun drew (load_of n slot (word_of x) after)
+pub reliable_now : (n slot after : ℕ) (begun : List Begun) (drew : List Draw) (x : Shown) → x.version < 2 ^ 24 → SlotIsRight n slot begun drew x → IsReliable begun drew (load_of n slot (word_showing x) after)
 reliable_now n slot after begun drew x fits r =
     let again = shown_again x fits in
     record {
@@ -59,17 +59,17 @@ module _ (begun : ℕ → List Begun) (drew : ℕ → List Draw) (loaded : ℕ �
       }
 
   -- the next timestamp is above all that anybody knew as it loaded
-  pub loads_draw : (base clock : ℕ) (seen : ℕ → List ℕ) (s : Sight base clock begun seen loaded) (n : ℕ) (id : TrxId) → Loads begun (pushed drew n (draw_of id (clock + 1))) loaded
-  loads_draw base clock seen s n id k l h =
+  pub loads_draw : (base tso : ℕ) (seen : ℕ → List ℕ) (s : Sight base tso begun seen loaded) (n : ℕ) (id : TrxId) → Loads begun (pushed drew n (draw_of id (tso + 1))) loaded
+  loads_draw base tso seen s n id k l h =
       let was = all k l h in
-      let d = draw_of id (clock + 1) in
+      let d = draw_of id (tso + 1) in
       record {
         active = λ version cts is drawn.
             ⊎_elim
             (λ (new : (l.of ≡ n) × (draw_of (trx l.of l.slot version) cts ≡ d)).
-            let next : cts ≡ clock + 1 = ap (λ (x : Draw). x.cts) new.1 in
+            let next : cts ≡ tso + 1 = ap (λ (x : Draw). x.cts) new.1 in
             let knew = (s.loads k l h).1 in
-            let most = greatest_drawn base clock begun seen loaded s k in
+            let most = greatest_drawn base tso begun seen loaded s k in
             omega arith)
             (λ (old : IsIn (draw_of (trx l.of l.slot version) cts) (drew l.of)). was.active version cts is old)
             (in_pushed drew n d l.of (draw_of (trx l.of l.slot version) cts) drawn);

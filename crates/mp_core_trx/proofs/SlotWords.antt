@@ -9,12 +9,12 @@ use Rattle.mp_core_trx.specs.declared.slot.Shown.{Shown}
 use Rattle.mp_core_trx.specs.declared.part.Begun.{Begun}
 use Rattle.mp_core_trx.specs.declared.part.SlotRow.{SlotRow}
 use Rattle.mp_core_trx.specs.declared.part.Draw.{Draw}
-use Rattle.mp_core_trx.specs.Lists.{IsIn, pushed}
+use Rattle.mp_machine.specs.Lists.{IsIn, pushed}
 use Rattle.mp_core_trx.specs.Words.{tag_number, shows}
-use Rattle.mp_core_trx.specs.Parts.{trx, begin_of, draw_of, unused, shown_at, Shows, HasBegun, HasDrawnNothing}
-use Rattle.mp_core_trx.specs.Events.{row_of}
-use Rattle.mp_core_trx.specs.Invariant.{Ids, IsRight, Slots, SlotsUsedOnce}
-use Rattle.mp_core_trx.proofs.Lists.{in_pushed, in_more, pushed_here, pushed_else}
+use Rattle.mp_core_trx.specs.Parts.{trx, begun_of, draw_of, unused, shown_at, Shows, HasBegun, HasDrawnNothing}
+use Rattle.mp_core_trx.specs.Events.{slot_row}
+use Rattle.mp_core_trx.specs.Invariant.{Ids, SlotIsRight, Slots, SlotsUsedOnce}
+use Rattle.mp_machine.proofs.Lists.{in_pushed, in_more, pushed_here, pushed_else}
 use Rattle.mp_core_trx.proofs.Ids.{begun_more, begun_cases, same_id, as_trx}
 
 -- two tags with different numbers are not shown at once
@@ -38,14 +38,14 @@ pub shown_here : (rows : ℕ → List SlotRow) (n : ℕ) (row : SlotRow) → sho
 shown_here rows n row = ap (λ l. shown_at l row.slot) (pushed_here rows n row) ∙ ap (λ b. if b then row.shown else shown_at (rows n) row.slot) (eq-eqb row.slot row.slot refl)
 
 module _ (begun : ℕ → List Begun) (drew : ℕ → List Draw) (rows : ℕ → List SlotRow) (all : Slots begun drew rows) where
-  pub slots_store : (n : ℕ) (id : TrxId) (x : Shown) → IsRight n id.slot (begun n) (drew n) x → Slots begun drew (pushed rows n (row_of id x))
+  pub slots_store : (n : ℕ) (id : TrxId) (x : Shown) → SlotIsRight n id.slot (begun n) (drew n) x → Slots begun drew (pushed rows n (slot_row id x))
   slots_store n id x right k slot =
       ⊎_elim
-      (λ (here : (k ≡ n) × (slot ≡ id.slot) × (shown_at (pushed rows n (row_of id x) k) slot ≡ x)).
-      subst (λ y. IsRight k slot (begun k) (drew k) y) (sym here.2)
-      (subst (λ s. IsRight k s (begun k) (drew k) x) (sym here.1) (subst (λ j. IsRight j id.slot (begun j) (drew j) x) (sym here.0) right)))
-      (λ (old : shown_at (pushed rows n (row_of id x) k) slot ≡ shown_at (rows k) slot). subst (λ y. IsRight k slot (begun k) (drew k) y) (sym old) (all k slot))
-      (shown_pushed rows n (row_of id x) k slot)
+      (λ (here : (k ≡ n) × (slot ≡ id.slot) × (shown_at (pushed rows n (slot_row id x) k) slot ≡ x)).
+      subst (λ y. SlotIsRight k slot (begun k) (drew k) y) (sym here.2)
+      (subst (λ s. SlotIsRight k s (begun k) (drew k) x) (sym here.1) (subst (λ j. SlotIsRight j id.slot (begun j) (drew j) x) (sym here.0) right)))
+      (λ (old : shown_at (pushed rows n (slot_row id x) k) slot ≡ shown_at (rows k) slot). subst (λ y. SlotIsRight k slot (begun k) (drew k) y) (sym old) (all k slot))
+      (shown_pushed rows n (slot_row id x) k slot)
 
   -- a transaction that begins has drawn nothing, so no slot shows anything wrong of it
   pub slots_begin : (n : ℕ) (b : Begun) → HasDrawnNothing (drew n) b.id → Slots (pushed begun n b) drew rows
@@ -95,7 +95,7 @@ module _ (o : TrxOpening) (begun : ℕ → List Begun) (i : Ids o begun) (drew :
   of_version : (tag : _) (other : TrxId) → HasBegun (begun n) other → shows tag id.version 0 ≡ shows tag other.version 0 → HasDrawnNothing drew id → HasDrawnNothing drew other
   of_version tag other h e nothing = subst (λ j. HasDrawnNothing drew j) (same_id o begun i n id other has h (ap (λ (x : Shown). x.version) e)) nothing
 
-  pub right_active : HasDrawnNothing drew id → IsRight n id.slot (begun n) drew (shows Active id.version 0)
+  pub right_active : HasDrawnNothing drew id → SlotIsRight n id.slot (begun n) drew (shows Active id.version 0)
   right_active nothing = record {
     known = inr is_begun;
     active = λ other h at is. of_version Active other h is nothing;
@@ -104,7 +104,7 @@ module _ (o : TrxOpening) (begun : ℕ → List Begun) (i : Ids o begun) (drew :
     stamped = inl refl;
   }
 
-  pub right_prep : IsRight n id.slot (begun n) drew (shows Prep id.version 0)
+  pub right_prep : SlotIsRight n id.slot (begun n) drew (shows Prep id.version 0)
   right_prep = record {
     known = inr is_begun;
     active = λ other h at is. two_tags (shows Prep id.version 0) (shows Active other.version 0) is (λ e. absurd (omega arith));
@@ -113,7 +113,7 @@ module _ (o : TrxOpening) (begun : ℕ → List Begun) (i : Ids o begun) (drew :
     stamped = inl refl;
   }
 
-  pub right_free : HasDrawnNothing drew id → IsRight n id.slot (begun n) drew (shows Free id.version 0)
+  pub right_free : HasDrawnNothing drew id → SlotIsRight n id.slot (begun n) drew (shows Free id.version 0)
   right_free nothing = record {
     known = inr is_begun;
     active = λ other h at is. two_tags (shows Free id.version 0) (shows Active other.version 0) is (λ e. absurd (omega arith));
@@ -122,7 +122,7 @@ module _ (o : TrxOpening) (begun : ℕ → List Begun) (i : Ids o begun) (drew :
     stamped = inl refl;
   }
 
-  pub right_committed : (cts : ℕ) → IsIn (draw_of id cts) drew → IsRight n id.slot (begun n) drew (shows Committed id.version cts)
+  pub right_committed : (cts : ℕ) → IsIn (draw_of id cts) drew → SlotIsRight n id.slot (begun n) drew (shows Committed id.version cts)
   right_committed cts drawn = record {
     known = inr is_begun;
     active = λ other h at is. two_tags (shows Committed id.version cts) (shows Active other.version 0) is (λ e. absurd (omega arith));
@@ -133,31 +133,31 @@ module _ (o : TrxOpening) (begun : ℕ → List Begun) (i : Ids o begun) (drew :
   }
 
 -- the slot of a transaction goes on to show its version
-pub once_store : (begun : ℕ → List Begun) (rows : ℕ → List SlotRow) (n : ℕ) (id : TrxId) (x : Shown) → SlotsUsedOnce begun rows → HasBegun (begun n) id → x.version ≡ id.version → SlotsUsedOnce begun (pushed rows n (row_of id x))
+pub once_store : (begun : ℕ → List Begun) (rows : ℕ → List SlotRow) (n : ℕ) (id : TrxId) (x : Shown) → SlotsUsedOnce begun rows → HasBegun (begun n) id → x.version ≡ id.version → SlotsUsedOnce begun (pushed rows n (slot_row id x))
 once_store begun rows n id x all has same k other h =
     ⊎_elim
-    (λ (here : (k ≡ n) × (other.slot ≡ id.slot) × (shown_at (pushed rows n (row_of id x) k) other.slot ≡ x)).
+    (λ (here : (k ≡ n) × (other.slot ≡ id.slot) × (shown_at (pushed rows n (slot_row id x) k) other.slot ≡ x)).
     ap (λ (y : Shown). y.version) here.2 ∙ same ∙ sym (all n id has) ∙ (λ i. (shown_at (rows (sym here.0 i)) (sym here.1 i)).version) ∙ all k other h)
-    (λ (old : shown_at (pushed rows n (row_of id x) k) other.slot ≡ shown_at (rows k) other.slot). ap (λ (y : Shown). y.version) old ∙ all k other h)
-    (shown_pushed rows n (row_of id x) k other.slot)
+    (λ (old : shown_at (pushed rows n (slot_row id x) k) other.slot ≡ shown_at (rows k) other.slot). ap (λ (y : Shown). y.version) old ∙ all k other h)
+    (shown_pushed rows n (slot_row id x) k other.slot)
 
 -- a transaction that begins takes a slot that none had
 pub once_begin : (o : TrxOpening) (begun : ℕ → List Begun) (rows : ℕ → List SlotRow) (n : ℕ) (id : TrxId) (view : ℕ) (x : Shown) → Ids o begun → SlotsUsedOnce begun rows → shown_at (rows n) id.slot ≡ unused → x.version ≡ id.version
-    → SlotsUsedOnce (pushed begun n (begin_of id view)) (pushed rows n (row_of id x))
+    → SlotsUsedOnce (pushed begun n (begun_of id view)) (pushed rows n (slot_row id x))
 once_begin o begun rows n id view x i all free same k other h =
     ⊎_elim
     (λ (new : (k ≡ n) × (other ≡ id)).
-    (λ j. (shown_at (pushed rows n (row_of id x) (new.0 j)) (new.1 j).slot).version) ∙ ap (λ (y : Shown). y.version) (shown_here rows n (row_of id x)) ∙ same ∙ ap (λ (j : TrxId). j.version) (sym new.1))
+    (λ j. (shown_at (pushed rows n (slot_row id x) (new.0 j)) (new.1 j).slot).version) ∙ ap (λ (y : Shown). y.version) (shown_here rows n (slot_row id x)) ∙ same ∙ ap (λ (j : TrxId). j.version) (sym new.1))
     (λ (old : HasBegun (begun k) other).
     let was = all k other old in
     ⊎_elim
-    (λ (here : (k ≡ n) × (other.slot ≡ id.slot) × (shown_at (pushed rows n (row_of id x) k) other.slot ≡ x)).
+    (λ (here : (k ≡ n) × (other.slot ≡ id.slot) × (shown_at (pushed rows n (slot_row id x) k) other.slot ≡ x)).
     let shown : (shown_at (rows k) other.slot).version ≡ 0 = (λ i. (shown_at (rows (here.0 i)) (here.1 i)).version) ∙ ap (λ (y : Shown). y.version) free in
-    let above = (i.versions k (begin_of other old.0) old.1).0 in
+    let above = (i.versions k (begun_of other old.0) old.1).0 in
     absurd (omega arith))
-    (λ (stays : shown_at (pushed rows n (row_of id x) k) other.slot ≡ shown_at (rows k) other.slot). ap (λ (y : Shown). y.version) stays ∙ was)
-    (shown_pushed rows n (row_of id x) k other.slot))
-    (begun_cases begun n (begin_of id view) k other h)
+    (λ (stays : shown_at (pushed rows n (slot_row id x) k) other.slot ≡ shown_at (rows k) other.slot). ap (λ (y : Shown). y.version) stays ∙ was)
+    (shown_pushed rows n (slot_row id x) k other.slot))
+    (begun_cases begun n (begun_of id view) k other h)
 
 -- so no two transactions of a node have one slot
 pub one_slot : (o : TrxOpening) (begun : ℕ → List Begun) (rows : ℕ → List SlotRow) → Ids o begun → SlotsUsedOnce begun rows → (n : ℕ) (a b : TrxId) → HasBegun (begun n) a → HasBegun (begun n) b → a.slot ≡ b.slot → a ≡ b

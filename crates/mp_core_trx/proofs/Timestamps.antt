@@ -6,21 +6,21 @@ use Rattle.mp_model.specs.declared.ids.TrxId.{TrxId}
 use Rattle.mp_core_trx.specs.declared.opening.TrxOpening.{TrxOpening}
 use Rattle.mp_core_trx.specs.declared.part.Begun.{Begun}
 use Rattle.mp_core_trx.specs.declared.part.Draw.{Draw}
-use Rattle.mp_core_trx.specs.Lists.{IsIn, pushed}
+use Rattle.mp_machine.specs.Lists.{IsIn, pushed}
 use Rattle.mp_core_trx.specs.Parts.{draw_of, HasBegun, HasDrawnNothing}
 use Rattle.mp_core_trx.specs.Events.{IsNode}
 use Rattle.mp_core_trx.specs.Invariant.{Ids, Draws, Drawers}
-use Rattle.mp_core_trx.proofs.Lists.{in_pushed, in_more, in_new, each_pushed, differ_pushed, same_item, total_length_pushed}
+use Rattle.mp_machine.proofs.Lists.{in_pushed, in_more, in_new, each_pushed, differ_pushed, same_item, total_length_pushed}
 use Rattle.mp_core_trx.proofs.Ids.{begun_more, same_id}
 
-pub draws_draw : (o : TrxOpening) (clock : ℕ) (drew : ℕ → List Draw) (n : ℕ) (id : TrxId) → Draws o clock drew → IsNode o n → Draws o (clock + 1) (pushed drew n (draw_of id (clock + 1)))
-draws_draw o clock drew n id d node =
-    let new = draw_of id (clock + 1) in
+pub draws_draw : (o : TrxOpening) (tso : ℕ) (drew : ℕ → List Draw) (n : ℕ) (id : TrxId) → Draws o tso drew → IsNode o n → Draws o (tso + 1) (pushed drew n (draw_of id (tso + 1)))
+draws_draw o tso drew n id d node =
+    let new = draw_of id (tso + 1) in
     let count = d.counted in
     record {
-      within = each_pushed (λ _ x. (o.base.ts < x.cts) × (x.cts ≤ clock + 1)) drew n new (λ k x h. let was = d.within k x h in (was.0, omega arith)) (omega arith, omega arith);
+      within = each_pushed (λ _ x. (o.base.ts < x.cts) × (x.cts ≤ tso + 1)) drew n new (λ k x h. let was = d.within k x h in (was.0, omega arith)) (omega arith, omega arith);
       none_missing = λ cts above at.
-          dite (ℕ_discrete cts (clock + 1))
+          dite (ℕ_discrete cts (tso + 1))
           (λ last. (n, id, subst (λ c. IsIn (draw_of id c) (pushed drew n new n)) (sym last) (in_new drew n new)))
           (λ other. let was = d.none_missing cts above (omega arith) in (was.0, was.1, in_more drew n new was.0 (draw_of was.1 cts) was.2));
       by_one = λ k m x y h g same.

@@ -11,83 +11,107 @@ use Rattle.mp_core_trx.specs.declared.part.SlotLoad.{SlotLoad}
 use Rattle.mp_core_trx.specs.declared.part.TrxPart.{TrxPart}
 use Rattle.mp_core_trx.specs.declared.event.TrxEvent.{TrxEvent}
 use Rattle.mp_core_trx.specs.declared.event.TrxEvent.TheVariants.{LoadTso, StoreActive, StorePrep, DrawTso, StoreEnd, LoadTit}
-use Rattle.mp_core_trx.specs.Lists.{IsIn}
-use Rattle.mp_core_trx.specs.Words.{shows, word_of}
-use Rattle.mp_core_trx.specs.Parts.{begin_of, draw_of, unused, shown_at, Shows, HasBegun, HasDrawnNothing, IsOpen, newest}
+use Rattle.mp_machine.specs.Lists.{IsIn}
+use Rattle.mp_core_trx.specs.Words.{shows, word_showing}
+use Rattle.mp_core_trx.specs.Parts.{begun_of, draw_of, unused, shown_at, Shows, HasBegun, HasDrawnNothing, IsOpen, newest}
 
 -- the words: the timestamp oracle, and each node's slots
-pub data Place : Type 0 where
-  tso : Place
-  tit : ℕ → ℕ → Place
+pub data TrxPlace : Type 0 where
+  at_tso : TrxPlace
+  at_slot : ℕ → ℕ → TrxPlace
 
 -- nodes are numbered from 1
 abbrev pub IsNode : TrxOpening → ℕ → Type 0
 IsNode opening n = (1 ≤ n) × (n ≤ opening.primaries)
 
 -- the words of 8 nodes are there, whether there are so many nodes or not
-abbrev pub IsPlace : Place → Type 0
-IsPlace tso = Unit {0}
-IsPlace (tit n slot) = (1 ≤ n) × (n ≤ 8) × (slot < SLOTS)
+abbrev pub IsTrxPlace : TrxPlace → Type 0
+IsTrxPlace at_tso = Unit {0}
+IsTrxPlace (at_slot n slot) = (1 ≤ n) × (n ≤ 8) × (slot < SLOTS)
 
 -- where a word lies
-abbrev pub index : Place → ℕ
-index tso = 0
-index (tit n slot) = 1 + ((n - 1) * SLOTS + slot)
+abbrev pub trx_index : TrxPlace → ℕ
+trx_index at_tso = 0
+trx_index (at_slot n slot) = 1 + ((n - 1) * SLOTS + slot)
 
 -- how many words these are
-abbrev pub region : ℕ
-region = 1 + 8 * SLOTS
+abbrev pub trx_region : ℕ
+trx_region = 1 + 8 * SLOTS
 
-abbrev pub node_of : TrxEvent → ℕ
-node_of (LoadTso n) = n
-node_of (StoreActive n id) = n
-node_of (StorePrep n id) = n
-node_of (DrawTso n id) = n
-node_of (StoreEnd n id cts) = n
-node_of (LoadTit n whose slot) = n
+abbrev pub trx_node_of : TrxEvent → ℕ
+trx_node_of (LoadTso n) = n
+trx_node_of (StoreActive n id) = n
+trx_node_of (StorePrep n id) = n
+trx_node_of (DrawTso n id) = n
+trx_node_of (StoreEnd n id cts) = n
+trx_node_of (LoadTit n whose slot) = n
 
-abbrev pub place_of : TrxEvent → Place
-place_of (LoadTso n) = tso
-place_of (StoreActive n id) = tit n id.slot
-place_of (StorePrep n id) = tit n id.slot
-place_of (DrawTso n id) = tso
-place_of (StoreEnd n id cts) = tit n id.slot
-place_of (LoadTit n whose slot) = tit whose slot
+abbrev pub trx_place_of : TrxEvent → TrxPlace
+trx_place_of (LoadTso n) = at_tso
+trx_place_of (StoreActive n id) = at_slot n id.slot
+trx_place_of (StorePrep n id) = at_slot n id.slot
+trx_place_of (DrawTso n id) = at_tso
+trx_place_of (StoreEnd n id cts) = at_slot n id.slot
+trx_place_of (LoadTit n whose slot) = at_slot whose slot
 
 -- what a transaction's slot shows once it has ended
 abbrev pub ended : TrxId → Option ℕ → Shown
 ended id (Some cts) = shows Committed id.version cts
 ended id None = shows Free id.version 0
 
-abbrev pub word_after : TrxEvent → ℕ → ℕ
-word_after (LoadTso n) found = found
-word_after (StoreActive n id) found = word_of (shows Active id.version 0)
-word_after (StorePrep n id) found = word_of (shows Prep id.version 0)
-word_after (DrawTso n id) found = found + 1
-word_after (StoreEnd n id cts) found = word_of (ended id cts)
-word_after (LoadTit n whose slot) found = found
+abbrev pub trx_word_after : TrxEvent → ℕ → ℕ
+trx_word_after (LoadTso n) found = found
+trx_word_after (StoreActive n id) found = word_showing (shows Active id.version 0)
+trx_word_after (StorePrep n id) found = word_showing (shows Prep id.version 0)
+trx_word_after (DrawTso n id) found = found + 1
+trx_word_after (StoreEnd n id cts) found = word_showing (ended id cts)
+trx_word_after (LoadTit n whose slot) found = found
 
-abbrev pub row_of : TrxId → Shown → SlotRow
-row_of id shown = record { slot = id.slot; shown = shown }
+abbrev pub slot_row : TrxId → Shown → SlotRow
+slot_row id shown = record { slot = id.slot; shown = shown }
 
 abbrev pub load_of : ℕ → ℕ → ℕ → ℕ → SlotLoad
 load_of whose slot word after = record { of = whose; slot = slot; word = word; after = after }
 
+-- the part saw the timestamp oracle at a value
+abbrev pub with_seen : ℕ → TrxPart → TrxPart
+with_seen v p = record p { seen = v ∷ p.seen }
+
+-- it began a transaction, whose slot shows ACTIVE
+abbrev pub with_begun : Begun → TrxPart → TrxPart
+with_begun b p = record p { begun = b ∷ p.begun; rows = slot_row b.id (shows Active b.id.version 0) ∷ p.rows }
+
+-- it stored PREP for a transaction
+abbrev pub with_prep : TrxId → TrxPart → TrxPart
+with_prep id p = record p { rows = slot_row id (shows Prep id.version 0) ∷ p.rows }
+
+-- it drew a timestamp for a transaction, and so saw it
+abbrev pub with_draw : TrxId → ℕ → TrxPart → TrxPart
+with_draw id cts p = record p { drew = draw_of id cts ∷ p.drew; seen = cts ∷ p.seen }
+
+-- it ended a transaction, with its timestamp or with none
+abbrev pub with_end : TrxId → Option ℕ → TrxPart → TrxPart
+with_end id cts p = record p { rows = slot_row id (ended id cts) ∷ p.rows }
+
+-- it loaded the word of a slot
+abbrev pub with_slot_load : ℕ → ℕ → ℕ → TrxPart → TrxPart
+with_slot_load whose slot word p = record p { loaded = load_of whose slot word (newest p) ∷ p.loaded }
+
 -- the part of its node, by the word found: a view is the greatest timestamp that the node knows
-abbrev pub made : TrxEvent → ℕ → TrxPart → TrxPart
-made (LoadTso n) found p = record { opening = p.opening; begun = p.begun; rows = p.rows; drew = p.drew; seen = found ∷ p.seen; loaded = p.loaded }
-made (StoreActive n id) found p = record { opening = p.opening; begun = begin_of id (newest p) ∷ p.begun; rows = row_of id (shows Active id.version 0) ∷ p.rows; drew = p.drew; seen = p.seen; loaded = p.loaded }
-made (StorePrep n id) found p = record { opening = p.opening; begun = p.begun; rows = row_of id (shows Prep id.version 0) ∷ p.rows; drew = p.drew; seen = p.seen; loaded = p.loaded }
-made (DrawTso n id) found p = record { opening = p.opening; begun = p.begun; rows = p.rows; drew = draw_of id (found + 1) ∷ p.drew; seen = (found + 1) ∷ p.seen; loaded = p.loaded }
-made (StoreEnd n id cts) found p = record { opening = p.opening; begun = p.begun; rows = row_of id (ended id cts) ∷ p.rows; drew = p.drew; seen = p.seen; loaded = p.loaded }
-made (LoadTit n whose slot) found p = record { opening = p.opening; begun = p.begun; rows = p.rows; drew = p.drew; seen = p.seen; loaded = load_of whose slot found (newest p) ∷ p.loaded }
+abbrev pub trx_made : TrxEvent → ℕ → TrxPart → TrxPart
+trx_made (LoadTso n) found p = with_seen found p
+trx_made (StoreActive n id) found p = with_begun (begun_of id (newest p)) p
+trx_made (StorePrep n id) found p = with_prep id p
+trx_made (DrawTso n id) found p = with_draw id (found + 1) p
+trx_made (StoreEnd n id cts) found p = with_end id cts p
+trx_made (LoadTit n whose slot) found p = with_slot_load whose slot found p
 
 -- a transaction may take the slot: none had it before
 abbrev pub IsUsable : TrxPart → ℕ → Type 0
 IsUsable p slot = shown_at p.rows slot ≡ unused
 
 -- The node may begin the transaction
-pub record MayBegin (p : TrxPart) (n : ℕ) (id : TrxId) : Type 0 where
+pub record MayStoreActive (p : TrxPart) (n : ℕ) (id : TrxId) : Type 0 where
   pub own : id.node ≡ n
   pub above : p.opening.base.version < id.version
   pub within : id.version ≤ p.opening.base.version + p.opening.begins
@@ -101,14 +125,14 @@ MayEnd p id (Some cts) = IsIn (draw_of id cts) p.drew
 MayEnd p id None = HasDrawnNothing p.drew id
 
 -- what an event asks of the part of its node, besides that there is this node
-abbrev pub Asks : TrxPart → TrxEvent → Type 0
-Asks p (LoadTso n) = Unit {0}
-Asks p (StoreActive n id) = MayBegin p n id
-Asks p (StorePrep n id) = HasBegun p.begun id × Shows p.rows id Active
-Asks p (DrawTso n id) = HasBegun p.begun id × Shows p.rows id Prep × HasDrawnNothing p.drew id
-Asks p (StoreEnd n id cts) = IsOpen p id × MayEnd p id cts
-Asks p (LoadTit n whose slot) = IsNode p.opening whose × (slot < SLOTS)
+abbrev pub TrxAsks : TrxPart → TrxEvent → Type 0
+TrxAsks p (LoadTso n) = Unit {0}
+TrxAsks p (StoreActive n id) = MayStoreActive p n id
+TrxAsks p (StorePrep n id) = HasBegun p.begun id × Shows p.rows id Active
+TrxAsks p (DrawTso n id) = HasBegun p.begun id × Shows p.rows id Prep × HasDrawnNothing p.drew id
+TrxAsks p (StoreEnd n id cts) = IsOpen p id × MayEnd p id cts
+TrxAsks p (LoadTit n whose slot) = IsNode p.opening whose × (slot < SLOTS)
 
 -- the condition of an event
-abbrev pub Allowed : TrxPart → TrxEvent → Type 0
-Allowed p e = IsNode p.opening (node_of e) × Asks p e
+abbrev pub TrxAllowed : TrxPart → TrxEvent → Type 0
+TrxAllowed p e = IsNode p.opening (trx_node_of e) × TrxAsks p e

@@ -1,6 +1,6 @@
-pub mod Lists
 pub mod Words
 pub mod Parts
 pub mod Events
 pub mod World
+pub mod Examples
 pub mod Invariant

@@ -9,15 +9,15 @@ use Rattle.mp_core_trx.specs.declared.part.Begun.{Begun}
 use Rattle.mp_core_trx.specs.declared.part.SlotRow.{SlotRow}
 use Rattle.mp_core_trx.specs.declared.part.Draw.{Draw}
 use Rattle.mp_core_trx.specs.declared.part.TrxPart.{TrxPart}
-use Rattle.mp_core_trx.specs.Lists.{IsIn, Grows, total}
+use Rattle.mp_machine.specs.Lists.{IsIn, Grows, total}
 use Rattle.mp_core_trx.specs.Words.{shows}
 
 -- ids, begins and draws from their fields
 abbrev pub trx : ℕ → ℕ → ℕ → TrxId
 trx node slot version = record { node = node; slot = slot; version = version }
 
-abbrev pub begin_of : TrxId → ℕ → Begun
-begin_of id view = record { id = id; view = view }
+abbrev pub begun_of : TrxId → ℕ → Begun
+begun_of id view = record { id = id; view = view }
 
 abbrev pub draw_of : TrxId → ℕ → Draw
 draw_of id cts = record { id = id; cts = cts }
@@ -37,7 +37,7 @@ Shows rows id tag = shown_at rows id.slot ≡ shows tag id.version 0
 
 -- the transaction was begun
 abbrev pub HasBegun : List Begun → TrxId → Type 0
-HasBegun begun id = (view : ℕ) × IsIn (begin_of id view) begun
+HasBegun begun id = (view : ℕ) × IsIn (begun_of id view) begun
 
 -- it has drawn no timestamp
 abbrev pub HasDrawnNothing : List Draw → TrxId → Type 0
@@ -48,20 +48,20 @@ abbrev pub IsOpen : TrxPart → TrxId → Type 0
 IsOpen p id = HasBegun p.begun id × (Shows p.rows id Active ⊎ Shows p.rows id Prep)
 
 -- the greatest timestamp that was seen, or the base where none was
-abbrev pub greatest : ℕ → List ℕ → ℕ
-greatest base [] = base
-greatest base (v ∷ vs) = max v (greatest base vs)
+abbrev pub greatest_seen : ℕ → List ℕ → ℕ
+greatest_seen base [] = base
+greatest_seen base (v ∷ vs) = max v (greatest_seen base vs)
 
 -- the greatest timestamp that the node knows
 abbrev pub newest : TrxPart → ℕ
-newest p = greatest p.opening.base.ts p.seen
+newest p = greatest_seen p.opening.base.ts p.seen
 
 -- a node's part before any step
-abbrev pub newcomer : TrxOpening → TrxPart
-newcomer opening = record { opening = opening; begun = []; rows = []; drew = []; seen = []; loaded = [] }
+abbrev pub first_trx_part : TrxOpening → TrxPart
+first_trx_part opening = record { opening = opening; begun = []; rows = []; drew = []; seen = []; loaded = [] }
 
 -- The part may have come from the other by steps: nothing that it knew is lost
-pub record Extends (old new : TrxPart) : Type 0 where
+pub record PartExtends (old new : TrxPart) : Type 0 where
   pub same_opening : new.opening ≡ old.opening
   pub more_begun : Grows old.begun new.begun
   pub more_rows : Grows old.rows new.rows

@@ -17,8 +17,8 @@ abbrev pub shows : SlotTag → ℕ → ℕ → Shown
 shows tag version cts = record { tag = tag; version = version; cts = cts }
 
 -- the word that shows this
-abbrev pub word_of : Shown → ℕ
-word_of x = tag_number x.tag + 4 * x.version + 2 ^ 26 * x.cts
+abbrev pub word_showing : Shown → ℕ
+word_showing x = tag_number x.tag + 4 * x.version + 2 ^ 26 * x.cts
 
 -- what a word shows
 abbrev pub shown_of : ℕ → Shown

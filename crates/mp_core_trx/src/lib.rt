@@ -9,7 +9,7 @@ mod part;
 mod slot;
 
 pub use event::TrxEvent;
-pub use laws::law_trx_inv;
+pub use laws::{law_trx_examples, law_trx_inv};
 pub use opening::{Base, SLOTS, TrxOpening};
 pub use part::{Begun, Draw, SlotLoad, SlotRow, TrxPart};
 pub use slot::{Shown, SlotTag};

@@ -1,6 +1,6 @@
 //! What a transaction slot shows in its word.
 ghost use Rattle.std.specs.Prelude.{◌≡◌, ◌^◌, ◌<◌};
-ghost use Rattle.mp_core_trx.specs.Words.{tag_number, tag_of, word_of, shown_of};
+ghost use Rattle.mp_core_trx.specs.Words.{tag_number, tag_of, word_showing, shown_of};
 
 /// Where the slot's transaction stands. `Prep` says that its commit has begun.
 #[derive(Clone, Copy, Debug, PartialEq, Eq)]
@@ -49,7 +49,7 @@ impl Shown {
     /// Reads a slot's word: the tag in its bits 0 and 1, the version in bits 2 to 25, the timestamp in bits 26 to 63.
     pub fn read(word: u64) -> Shown
         ensures fields { result ≡ shown_of word }
-        ensures again { word_of result ≡ word }
+        ensures again { word_showing result ≡ word }
     {
         Shown {
             tag: SlotTag::of(word & 3),
@@ -61,7 +61,7 @@ impl Shown {
     /// The slot's word.
     pub fn word(self) -> u64
         requires { (self.version < 2 ^ 24) × (self.cts < 2 ^ 38) }
-        ensures word { result ≡ word_of self }
+        ensures word { result ≡ word_showing self }
         ensures again { shown_of result ≡ self }
     {
         self.tag.number() + (u64::from(self.version) << 2) + (self.cts << 26)

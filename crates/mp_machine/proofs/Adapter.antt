@@ -8,7 +8,7 @@ use Rattle.atomic_table.specs.Table.{State, Me, Allows, Valid, stepped, homes_af
 use Rattle.atomic_table.proofs.Lists.{at_set, set_else}
 use Rattle.mp_machine.specs.Machine.{Machine, run, MayCome, AllAllowed}
 use Rattle.mp_machine.specs.View.{View, part_in, with_part}
-use Rattle.mp_machine.specs.Rule.{Laws, Stands, Rule, CanMake, Word, Came, Made, Stored, Backed}
+use Rattle.mp_machine.specs.Rule.{Laws, Stands, Rule, CanMake, Word, Came, MadeStep, Stored, Backed}
 use Rattle.mp_machine.proofs.Views.{part_in-with_here, part_in-with_else}
 
 module _ {A : Type 0} where
@@ -78,7 +78,7 @@ module _ {Slot Part Event Place Note World : Type 0} (m : Machine Slot Part Even
       }
 
   steps_at : (e : Event) (me : Me Slot (View Part)) (f : ℕ → ℕ) → m.IsPlace (m.place_of e) → (p : Part) → part_in me.0 (m.node_of e) ≡ Some p → m.Allowed p me.1 e → Word m e f
-      → (slots id : ℕ) → Allows (Rule m) slots id me (m.index (m.place_of e)) f (Made m e me)
+      → (slots id : ℕ) → Allows (Rule m) slots id me (m.index (m.place_of e)) f (MadeStep m e me)
   steps_at e me f placed p has may word slots id t rule long at small =
       let es = rule.0 in
       let before = rule.1 in
@@ -115,8 +115,8 @@ module _ {Slot Part Event Place Note World : Type 0} (m : Machine Slot Part Even
       )
 
   -- the adapter: what a step owes, of an event that the seat can make by it
-  pub steps : (e : Event) (me : Me Slot (View Part)) (word : ℕ) (f : ℕ → ℕ) → CanMake m e me word f → (slots id : ℕ) → Allows (Rule m) slots id me word f (Made m e me)
-  steps e me word f can slots id = subst (λ i. Allows (Rule m) slots id me i f (Made m e me)) (sym can.word_is) (steps_at e me f can.place can.mine can.holds can.allowed can.changes slots id)
+  pub steps : (e : Event) (me : Me Slot (View Part)) (word : ℕ) (f : ℕ → ℕ) → CanMake m e me word f → (slots id : ℕ) → Allows (Rule m) slots id me word f (MadeStep m e me)
+  steps e me word f can slots id = subst (λ i. Allows (Rule m) slots id me i f (MadeStep m e me)) (sym can.word_is) (steps_at e me f can.place can.mine can.holds can.allowed can.changes slots id)
 
   -- the same for a store, which tells nothing of the word found
   pub stores : (e : Event) (me : Me Slot (View Part)) (word new : ℕ) → CanMake m e me word (λ _. new) → (slots id : ℕ) → Allows (Rule m) slots id me word (λ _. new) (λ _. Stored m e me)
@@ -135,14 +135,14 @@ module _ {Slot Part Event Place Note World : Type 0} (m : Machine Slot Part Even
   held_after_it P law e before found x after came = law (e ∷ came.events) came.allowed
 
   -- the seat is backed after its step
-  pub backed : (e : Event) (before : Me Slot (View Part)) (found : ℕ) (after : Me Slot (View Part)) → Made m e before found after → Backed m after.0
+  pub backed : (e : Event) (before : Me Slot (View Part)) (found : ℕ) (after : Me Slot (View Part)) → MadeStep m e before found after → Backed m after.0
   backed e before found after made = let came = made.4 in (e ∷ came.events, came.allowed, came.agrees)
 
 -- the adapter for a family of machines, at the opening that a turn names
 module _ {Slot Part Event Place Note World Opening : Type 0} (machine : Opening → Machine Slot Part Event Place Note World) (laws : (o : Opening) → Laws (machine o)) where
   pub turns : (o key : Opening) → o ≡ key → (e : Event) (me : Me Slot (View Part)) (word : ℕ) (f : ℕ → ℕ) → CanMake (machine o) e me word f
-      → (slots id : ℕ) → Allows (Rule (machine key)) slots id me word f (Made (machine o) e me)
-  turns o key same e me word f can slots id = subst (λ k. Allows (Rule (machine k)) slots id me word f (Made (machine o) e me)) same (steps (machine o) (laws o) e me word f can slots id)
+      → (slots id : ℕ) → Allows (Rule (machine key)) slots id me word f (MadeStep (machine o) e me)
+  turns o key same e me word f can slots id = subst (λ k. Allows (Rule (machine k)) slots id me word f (MadeStep (machine o) e me)) same (steps (machine o) (laws o) e me word f can slots id)
 
   pub turns_by_store : (o key : Opening) → o ≡ key → (e : Event) (me : Me Slot (View Part)) (word new : ℕ) → CanMake (machine o) e me word (λ _. new)
       → (slots id : ℕ) → Allows (Rule (machine key)) slots id me word (λ _. new) (λ _. Stored (machine o) e me)

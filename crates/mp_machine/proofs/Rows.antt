@@ -1,7 +1,7 @@
 -- Small views that show what the definitions say.
 use Rattle.std.proofs.Common.{◌≡◌, ℕ, ◌+◌, [], ◌∷◌, None, Some, ◌==◌, refl}
-use Rattle.mp_machine.specs.Machine.{turned_onto}
-use Rattle.mp_machine.specs.View.{View, with_part, only, without, joined, whole, Agrees}
+use Rattle.mp_machine.specs.Machine.{reversed_onto}
+use Rattle.mp_machine.specs.View.{View, with_part, only, without, joined, whole, ViewAgrees}
 
 abbrev both : View ℕ
 both = Some 5 ∷ Some 7 ∷ []
@@ -25,9 +25,9 @@ not_held = refl
 all_of_two : whole (λ n. n + 5) 2 ≡ Some 5 ∷ Some 6 ∷ []
 all_of_two = refl
 
-in_time : turned_onto {Event = ℕ} (3 ∷ 2 ∷ 1 ∷ []) [] ≡ 1 ∷ 2 ∷ 3 ∷ []
+in_time : reversed_onto {Event = ℕ} (3 ∷ 2 ∷ 1 ∷ []) [] ≡ 1 ∷ 2 ∷ 3 ∷ []
 in_time = refl
 
 -- a view with another part does not agree
-disagrees : Agrees (λ _. 5) both → ⊥
+disagrees : ViewAgrees (λ _. 5) both → ⊥
 disagrees h = let e : ◌≡◌ {A = ℕ} 5 7 = h 1 7 refl in absurd (cc)

@@ -1,6 +1,6 @@
 -- What a view holds after a change of one part, a cut, and a join.
 use Rattle.std.proofs.Common.{◌≡◌, ℕ, zero, suc, [], ◌∷◌, Option, None, Some, Bool, true, false, if◌then◌else◌, ◌<◌, refl, sym, ap, arith}
-use Rattle.mp_machine.specs.View.{View, part_in, with_part, only, either_part, joined, whole, Agrees}
+use Rattle.mp_machine.specs.View.{View, part_in, with_part, only, either_part, joined, whole, ViewAgrees}
 
 module _ {Part : Type 0} where
   pub part_in-with_here : (v : View Part) (n : ℕ) (p q : Part) → part_in v n ≡ Some q → part_in (with_part v n p) n ≡ Some p
@@ -44,7 +44,7 @@ module _ {Part : Type 0} where
   part_in-whole part (suc count) zero h = refl
   part_in-whole part (suc count) (suc n) h = part_in-whole (λ k. part (suc k)) count n (omega arith)
 
-  pub Agrees-whole : (part : ℕ → Part) (count : ℕ) → Agrees part (whole part count)
+  pub Agrees-whole : (part : ℕ → Part) (count : ℕ) → ViewAgrees part (whole part count)
   Agrees-whole part zero n p e = absurd (cc)
   Agrees-whole part (suc count) zero p e = cc
   Agrees-whole part (suc count) (suc n) p e = Agrees-whole (λ k. part (suc k)) count n p e

@@ -1,5 +1,4 @@
+pub mod Lists
 pub mod Machine
 pub mod View
 pub mod Rule
-pub mod Example
-pub mod ExampleLaws

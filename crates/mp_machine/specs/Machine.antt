@@ -30,9 +30,9 @@ pub record Machine (Slot Part Event Place Note World : Type 0) : Type 1 where
   pub Allowed : Part → List (ℕ × Slot) → Event → Type 0
 
 -- the first list turned round, and then the second: so last-first becomes the order of time, and back
-abbrev pub turned_onto : {Event : Type 0} → List Event → List Event → List Event
-turned_onto [] others = others
-turned_onto (e ∷ es) others = turned_onto es (e ∷ others)
+abbrev pub reversed_onto : {Event : Type 0} → List Event → List Event → List Event
+reversed_onto [] others = others
+reversed_onto (e ∷ es) others = reversed_onto es (e ∷ others)
 
 module _ {Slot Part Event Place Note World : Type 0} (m : Machine Slot Part Event Place Note World) where
   -- the world after these events, of which the last stands first

@@ -4,7 +4,7 @@ use mathlib.Core.Option.{some}
 use lib.ListN.{get_elem?}
 use Rattle.atomic_table.specs.Table.{State, Me, Valid, homes_after, carried_after}
 use Rattle.mp_machine.specs.Machine.{Machine, run, MayCome, AllAllowed}
-use Rattle.mp_machine.specs.View.{View, part_in, with_part, whole, Agrees}
+use Rattle.mp_machine.specs.View.{View, part_in, with_part, whole, ViewAgrees}
 
 -- What an instance shows of its machine, at each event that may come after events that were allowed
 pub record Laws {Slot Part Event Place Note World : Type 0} (m : Machine Slot Part Event Place Note World) : Type 0 where
@@ -43,7 +43,7 @@ module _ {Slot Part Event Place Note World : Type 0} (m : Machine Slot Part Even
 
   -- some world that can be reached agrees with this view
   abbrev pub Backed : View Part → Type 0
-  Backed v = (es : List Event) × AllAllowed m es × Agrees (m.part (run m es)) v
+  Backed v = (es : List Event) × AllAllowed m es × ViewAgrees (m.part (run m es)) v
 
   -- where the event may come, this function of its word is what the event makes of it
   abbrev pub Word : Event → (ℕ → ℕ) → Type 0
@@ -65,18 +65,18 @@ module _ {Slot Part Event Place Note World : Type 0} (m : Machine Slot Part Even
     pub allowed : AllAllowed m (e ∷ events)
     pub found_is : m.content (run m events) (m.place_of e) ≡ found
     pub noted : m.note (run m events) e ≡ x
-    pub agreed : Agrees (m.part (run m events)) before.0
-    pub agrees : Agrees (m.part (run m (e ∷ events))) after.0
+    pub agreed : ViewAgrees (m.part (run m events)) before.0
+    pub agrees : ViewAgrees (m.part (run m (e ∷ events))) after.0
     pub carries : after.1 ≡ carried_after before.1 (m.act (run m events) e)
 
   -- what a step tells: the seat's part of the event's node is what the event made of it, and no other part changed
-  abbrev pub Made : Event → Me Slot (View Part) → ℕ → Me Slot (View Part) → Type 0
-  Made e before found after =
+  abbrev pub MadeStep : Event → Me Slot (View Part) → ℕ → Me Slot (View Part) → Type 0
+  MadeStep e before found after =
       (x : Note) × (p : Part) × (part_in before.0 (m.node_of e) ≡ Some p) × (after.0 ≡ with_part before.0 (m.node_of e) (m.made e found x p)) × Came e before found x after
 
   -- the same after a store, which does not say what it found
   abbrev pub Stored : Event → Me Slot (View Part) → Me Slot (View Part) → Type 0
-  Stored e before after = (found : ℕ) × Made e before found after
+  Stored e before after = (found : ℕ) × MadeStep e before found after
 
   -- a seat that looks stays as it is, and is backed
   abbrev pub Looked : Me Slot (View Part) → Me Slot (View Part) → Type 0
@@ -86,6 +86,6 @@ module _ {Slot Part Event Place Note World : Type 0} (m : Machine Slot Part Even
   pub record Ends (words : List ℕ) (slots : List Slot) (v : View Part) : Type 0 where
     pub events : List Event
     pub allowed : AllAllowed m events
-    pub agrees : Agrees (m.part (run m events)) v
+    pub agrees : ViewAgrees (m.part (run m events)) v
     pub words_are : (a : Place) → m.IsPlace a → get_elem? words (m.index a) ≡ some (m.content (run m events) a)
     pub slots_are : (k : ℕ) (y : Slot) → get_elem? (m.homes (run m events)) k ≡ some (some y) → get_elem? slots k ≡ some y

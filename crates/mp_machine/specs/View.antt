@@ -40,5 +40,5 @@ module _ {Part : Type 0} where
   whole part (suc count) = Some (part 0) ∷ whole (λ n. part (suc n)) count
 
   -- each part that is held is the one given
-  abbrev pub Agrees : (ℕ → Part) → View Part → Type 0
-  Agrees part v = (n : ℕ) (p : Part) → part_in v n ≡ Some p → part n ≡ p
+  abbrev pub ViewAgrees : (ℕ → Part) → View Part → Type 0
+  ViewAgrees part v = (n : ℕ) (p : Part) → part_in v n ≡ Some p → part n ≡ p

@@ -2,14 +2,10 @@
 //! allowed when it came. A step is one event, and adding a kind of event touches no step that stands.
 #![tactic(auto)]
 
-pub mod example;
 mod plays;
 mod ruled_table;
 mod steps;
 mod system;
 
 pub use ruled_table::{RuledTable, Seat, View};
-pub use system::{Cut, System, Turn};
-
-#[cfg(test)]
-mod tests;
+pub use system::{NamesEvent, Share, System};

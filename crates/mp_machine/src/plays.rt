@@ -1,10 +1,10 @@
 // The rule of the table, and what its steps tell.
 ghost use Rattle.std.specs.Prelude.{[]};
 ghost use Rattle.mp_machine.specs.View.{only, without, joined};
-ghost use Rattle.mp_machine.specs.Rule.{Rule, all_parts, Made, Stored, Looked};
+ghost use Rattle.mp_machine.specs.Rule.{Rule, all_parts, MadeStep, Stored, Looked};
 
 use crate::ruled_table::View;
-use crate::system::{Cut, System, Turn};
+use crate::system::{NamesEvent, Share, System};
 use atomic_table::{Join, Play, Split, TableRule};
 use std::marker::PhantomData;
 
@@ -19,35 +19,37 @@ impl<M: System> TableRule<M::Slot, View<M::Part>, M::Opening> for Ruled<M> {
 }
 
 pub struct Told<M, T> {
-    turn: PhantomData<(M, T)>,
+    names: PhantomData<(M, T)>,
 }
 
-impl<M: System, T: Turn<M, M::Event, M::Opening>> Play<M::Slot, View<M::Part>> for Told<M, T> {
-    ghost then = { λ step before found after. Made (M.machine T.opening) T.event before found after };
+impl<M: System, T: NamesEvent<M, M::Event, M::Opening>> Play<M::Slot, View<M::Part>>
+    for Told<M, T> {
+    ghost then = { λ step before found after. MadeStep (M.machine T.opening) T.event before found after };
 }
 
 pub struct ToldByStore<M, T> {
-    turn: PhantomData<(M, T)>,
+    names: PhantomData<(M, T)>,
 }
 
-impl<M: System, T: Turn<M, M::Event, M::Opening>> Play<M::Slot, View<M::Part>>
+impl<M: System, T: NamesEvent<M, M::Event, M::Opening>> Play<M::Slot, View<M::Part>>
     for ToldByStore<M, T> {
     ghost then = { λ step before found after. Stored (M.machine T.opening) T.event before after };
 }
 
 pub struct Looks<M, T> {
-    turn: PhantomData<(M, T)>,
+    names: PhantomData<(M, T)>,
 }
 
-impl<M: System, T: Turn<M, M::Event, M::Opening>> Play<M::Slot, View<M::Part>> for Looks<M, T> {
+impl<M: System, T: NamesEvent<M, M::Event, M::Opening>> Play<M::Slot, View<M::Part>>
+    for Looks<M, T> {
     ghost then = { λ step before found after. Looked (M.machine T.opening) before after };
 }
 
 pub struct Parted<C> {
-    cut: PhantomData<C>,
+    share: PhantomData<C>,
 }
 
-impl<P, C: Cut> Split<View<P>> for Parted<C> {
+impl<P, C: Share> Split<View<P>> for Parted<C> {
     ghost left = { without C.moves };
 
     ghost right = { only C.moves };

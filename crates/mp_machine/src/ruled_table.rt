@@ -5,7 +5,7 @@ ghost use Rattle.mp_machine.specs.View.{only, without, joined};
 ghost use Rattle.mp_machine.specs.Rule.{Opens, all_parts, Backed, Ends};
 
 use crate::plays::{Looks, Parted, Ruled, Together};
-use crate::system::{Cut, System, Turn};
+use crate::system::{NamesEvent, Share, System};
 use atomic_table::{Closed, Refused, Table};
 use std::alloc::Global;
 use std::collections::LinkedList;
@@ -40,7 +40,7 @@ impl<M: System> RuledTable<M> {
     }
 
     /// A new seat, which gets the parts of the nodes that `C` names.
-    pub fn split<C: Cut>(&self, seat: &mut Seat<M>) -> Seat<M>
+    pub fn split<C: Share>(&self, seat: &mut Seat<M>) -> Seat<M>
         requires { (seat.old.table_id ≡ self.now.table.shared.table_id) × (0 < self.now.table.shared.table_id.words) }
         ensures kept { (seat.new.table_id ≡ seat.old.table_id) × (seat.new.id ≡ seat.old.id) × (seat.new.me ≡ (without C.moves seat.old.me.0, seat.old.me.1)) }
         ensures given { (result.table_id ≡ seat.old.table_id) × (result.me ≡ (only C.moves seat.old.me.0, [])) }
@@ -49,7 +49,7 @@ impl<M: System> RuledTable<M> {
     }
 
     /// Takes in the parts of a seat that carries no slot. It looks at the table once more, so the parts together are backed.
-    pub fn join<T: Turn<M, M::Event, M::Opening>>(&self, seat: &mut Seat<M>, other: Seat<M>)
+    pub fn join<T: NamesEvent<M, M::Event, M::Opening>>(&self, seat: &mut Seat<M>, other: Seat<M>)
         requires table { (seat.old.table_id ≡ self.now.table.shared.table_id) × (other.table_id ≡ self.now.table.shared.table_id) × (T.opening ≡ self.now.table.shared.key) × (0 < self.now.table.shared.table_id.words) }
         requires empty { other.me.1 ≡ [] }
         ensures seat { (seat.new.table_id ≡ seat.old.table_id) × (seat.new.id ≡ seat.old.id) × (seat.new.me ≡ (joined seat.old.me.0 other.me.0, seat.old.me.1)) }
@@ -60,7 +60,7 @@ impl<M: System> RuledTable<M> {
     }
 
     /// Changes nothing: some state of the machine that can be reached agrees with the seat's view.
-    pub fn look<T: Turn<M, M::Event, M::Opening>>(&self, seat: &mut Seat<M>)
+    pub fn look<T: NamesEvent<M, M::Event, M::Opening>>(&self, seat: &mut Seat<M>)
         requires table { (seat.old.table_id ≡ self.now.table.shared.table_id) × (T.opening ≡ self.now.table.shared.key) × (0 < self.now.table.shared.table_id.words) }
         ensures seat { (seat.new.table_id ≡ seat.old.table_id) × (seat.new.id ≡ seat.old.id) × (seat.new.me ≡ seat.old.me) }
         ensures backed { Backed (M.machine T.opening) seat.new.me.0 }

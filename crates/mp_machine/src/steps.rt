@@ -7,15 +7,15 @@
 ghost use Rattle.std.specs.Prelude.{◌≡◌, ◌+◌, ◌%◌, ◌^◌, ◌<◌, ◌==◌, ◌∷◌, bit_and, bit_or};
 ghost use prog.Atomic.{either};
 ghost use Rattle.atomic_table.specs.Table.{rest};
-ghost use Rattle.mp_machine.specs.Rule.{CanMake, Made, Stored};
+ghost use Rattle.mp_machine.specs.Rule.{CanMake, MadeStep, Stored};
 
 use crate::plays::{Told, ToldByStore};
 use crate::ruled_table::{RuledTable, Seat};
-use crate::system::{System, Turn};
+use crate::system::{NamesEvent, System};
 
 impl<M: System> RuledTable<M> {
     /// Reads the word, which stays.
-    pub fn load<T: Turn<M, M::Event, M::Opening>, A>(
+    pub fn load<T: NamesEvent<M, M::Event, M::Opening>, A>(
         &self,
         seat: &mut Seat<M>,
         word: usize,
@@ -24,13 +24,13 @@ impl<M: System> RuledTable<M> {
         requires table { (seat.old.table_id ≡ self.now.table.shared.table_id) × (T.opening ≡ self.now.table.shared.key) × (word < self.now.table.shared.table_id.words) }
         requires event { CanMake (M.machine T.opening) T.event seat.old.me word (λ n. n) }
         ensures seat { (seat.new.table_id ≡ seat.old.table_id) × (seat.new.id ≡ seat.old.id) }
-        ensures event { Made (M.machine T.opening) T.event seat.old.me result seat.new.me }
+        ensures event { MadeStep (M.machine T.opening) T.event seat.old.me result seat.new.me }
     {
         self.table.shared.load::<Told<M, T>>(seat, word)
     }
 
     /// Writes the word, whatever it was.
-    pub fn store<T: Turn<M, M::Event, M::Opening>, A>(
+    pub fn store<T: NamesEvent<M, M::Event, M::Opening>, A>(
         &self,
         seat: &mut Seat<M>,
         word: usize,
@@ -48,7 +48,7 @@ impl<M: System> RuledTable<M> {
     }
 
     /// Writes the word, and returns what it was.
-    pub fn swap<T: Turn<M, M::Event, M::Opening>, A>(
+    pub fn swap<T: NamesEvent<M, M::Event, M::Opening>, A>(
         &self,
         seat: &mut Seat<M>,
         word: usize,
@@ -58,13 +58,13 @@ impl<M: System> RuledTable<M> {
         requires table { (seat.old.table_id ≡ self.now.table.shared.table_id) × (T.opening ≡ self.now.table.shared.key) × (word < self.now.table.shared.table_id.words) }
         requires event { CanMake (M.machine T.opening) T.event seat.old.me word (λ _. new) }
         ensures seat { (seat.new.table_id ≡ seat.old.table_id) × (seat.new.id ≡ seat.old.id) }
-        ensures event { Made (M.machine T.opening) T.event seat.old.me result seat.new.me }
+        ensures event { MadeStep (M.machine T.opening) T.event seat.old.me result seat.new.me }
     {
         self.table.shared.swap::<Told<M, T>>(seat, word, new)
     }
 
     /// Adds to the word, round at 2^64, and returns what it was.
-    pub fn fetch_add<T: Turn<M, M::Event, M::Opening>, A>(
+    pub fn fetch_add<T: NamesEvent<M, M::Event, M::Opening>, A>(
         &self,
         seat: &mut Seat<M>,
         word: usize,
@@ -74,13 +74,13 @@ impl<M: System> RuledTable<M> {
         requires table { (seat.old.table_id ≡ self.now.table.shared.table_id) × (T.opening ≡ self.now.table.shared.key) × (word < self.now.table.shared.table_id.words) }
         requires event { CanMake (M.machine T.opening) T.event seat.old.me word (λ n. (n + k) % 2 ^ 64) }
         ensures seat { (seat.new.table_id ≡ seat.old.table_id) × (seat.new.id ≡ seat.old.id) }
-        ensures event { Made (M.machine T.opening) T.event seat.old.me result seat.new.me }
+        ensures event { MadeStep (M.machine T.opening) T.event seat.old.me result seat.new.me }
     {
         self.table.shared.fetch_add::<Told<M, T>>(seat, word, k)
     }
 
     /// Keeps the bits of `k`, and returns what the word was.
-    pub fn fetch_and<T: Turn<M, M::Event, M::Opening>, A>(
+    pub fn fetch_and<T: NamesEvent<M, M::Event, M::Opening>, A>(
         &self,
         seat: &mut Seat<M>,
         word: usize,
@@ -90,13 +90,13 @@ impl<M: System> RuledTable<M> {
         requires table { (seat.old.table_id ≡ self.now.table.shared.table_id) × (T.opening ≡ self.now.table.shared.key) × (word < self.now.table.shared.table_id.words) }
         requires event { CanMake (M.machine T.opening) T.event seat.old.me word (λ n. bit_and n k) }
         ensures seat { (seat.new.table_id ≡ seat.old.table_id) × (seat.new.id ≡ seat.old.id) }
-        ensures event { Made (M.machine T.opening) T.event seat.old.me result seat.new.me }
+        ensures event { MadeStep (M.machine T.opening) T.event seat.old.me result seat.new.me }
     {
         self.table.shared.fetch_and::<Told<M, T>>(seat, word, k)
     }
 
     /// Sets the bits of `k`, and returns what the word was.
-    pub fn fetch_or<T: Turn<M, M::Event, M::Opening>, A>(
+    pub fn fetch_or<T: NamesEvent<M, M::Event, M::Opening>, A>(
         &self,
         seat: &mut Seat<M>,
         word: usize,
@@ -106,13 +106,13 @@ impl<M: System> RuledTable<M> {
         requires table { (seat.old.table_id ≡ self.now.table.shared.table_id) × (T.opening ≡ self.now.table.shared.key) × (word < self.now.table.shared.table_id.words) }
         requires event { CanMake (M.machine T.opening) T.event seat.old.me word (λ n. bit_or n k) }
         ensures seat { (seat.new.table_id ≡ seat.old.table_id) × (seat.new.id ≡ seat.old.id) }
-        ensures event { Made (M.machine T.opening) T.event seat.old.me result seat.new.me }
+        ensures event { MadeStep (M.machine T.opening) T.event seat.old.me result seat.new.me }
     {
         self.table.shared.fetch_or::<Told<M, T>>(seat, word, k)
     }
 
     /// Writes `new` if the word is `old`, and returns what it was.
-    pub fn compare_exchange<T: Turn<M, M::Event, M::Opening>, A>(
+    pub fn compare_exchange<T: NamesEvent<M, M::Event, M::Opening>, A>(
         &self,
         seat: &mut Seat<M>,
         word: usize,
@@ -123,7 +123,7 @@ impl<M: System> RuledTable<M> {
         requires table { (seat.old.table_id ≡ self.now.table.shared.table_id) × (T.opening ≡ self.now.table.shared.key) × (word < self.now.table.shared.table_id.words) }
         requires event { CanMake (M.machine T.opening) T.event seat.old.me word (λ n. either (n == old) new n) }
         ensures seat { (seat.new.table_id ≡ seat.old.table_id) × (seat.new.id ≡ seat.old.id) }
-        ensures event { Made (M.machine T.opening) T.event seat.old.me result seat.new.me }
+        ensures event { MadeStep (M.machine T.opening) T.event seat.old.me result seat.new.me }
     {
         self.table
             .shared

@@ -31,18 +31,18 @@ pub trait System {
 
 /// The event that a step is, and the opening of its table. A caller passes `Brand`, and picks both in its proof. Its crate
 /// has the `impl` for `Brand`, at its own system and with any event and opening.
-pub trait Turn<M, E, K> {
+pub trait NamesEvent<M, E, K> {
     ghost event: { E };
 
     ghost opening: { K };
 }
 
 /// The nodes whose parts go to a new seat. A caller passes `Brand`, and picks it in its proof.
-pub trait Cut {
+pub trait Share {
     ghost moves: { ℕ → Bool };
 }
 
-impl Cut for Brand {
+impl Share for Brand {
     ghost use Rattle.std.specs.Prelude.{false};
 
     ghost moves = { λ _. false };

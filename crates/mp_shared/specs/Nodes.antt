@@ -1,15 +1,17 @@
 -- What contracts see of a node, and what a step makes of it.
-use Rattle.std.specs.Prelude.{◌≡◌, ℕ, ◌+◌, ◌==◌, List, [], Some, None, Option}
+use Rattle.std.specs.Prelude.{◌≡◌, ℕ, ◌+◌, ◌==◌, List, [], ◌∷◌, Some, None, Option}
 use Rattle.atomic_table.specs.Seated.{TableId}
-use Rattle.mp_machine.specs.View.{View, part_in, with_part, only, without, joined}
-use Rattle.mp_machine.specs.Rule.{Backed, Came, all_parts}
+use Rattle.mp_machine.specs.Machine.{run, AllAllowed}
+use Rattle.mp_machine.specs.View.{View, part_in, with_part, only, without, joined, ViewAgrees}
+use Rattle.mp_machine.specs.Rule.{Backed, all_parts}
 use Rattle.mp_core_trx.specs.declared.opening.Base.{Base}
 use Rattle.mp_core_trx.specs.Events.{IsNode}
 use Rattle.mp_core.specs.declared.opening.CoreOpening.{CoreOpening}
 use Rattle.mp_core.specs.declared.part.CorePart.{CorePart}
 use Rattle.mp_core.specs.declared.event.CoreEvent.{CoreEvent}
-use Rattle.mp_core.specs.World.{Frame, Note, node_of, made, Allowed, core}
-use Rattle.mp_core.specs.Invariant.{IsFair}
+use Rattle.mp_core.specs.declared.event.CoreEvent.TheVariants.{Trx}
+use Rattle.mp_core.specs.World.{Note, core_node_of, core_place_of, core_content, core_part, core_made, CoreAllowed, core}
+use Rattle.mp_core.specs.Invariant.{NumbersFit}
 
 -- what a run begins from
 abbrev pub opening_of : Base → ℕ → ℕ → CoreOpening
@@ -20,11 +22,11 @@ pub record Run : Type 0 where
   pub table_id : TableId
   pub opening : CoreOpening
 
--- A node's table, the parts that it holds, each at its primary's number, and the frames that it carries
+-- A node's table, the parts that it holds, each at its primary's number, and the pages whose frames it carries, the last taken first
 pub record NodeView : Type 0 where
   pub run : Run
   pub parts : View CorePart
-  pub frames : List (ℕ × Frame)
+  pub frames : List ℕ
 
 -- the node that holds the parts of all primaries, before any step
 abbrev pub first_node : Run → NodeView
@@ -43,31 +45,44 @@ joined_nodes n other = record { run = n.run; parts = joined n.parts other.parts;
 
 -- the node may take the step: it holds the part of the step's primary, which allows it
 abbrev pub MayTake : CoreEvent → NodeView → Type 0
-MayTake e n = (p : CorePart) × (part_in n.parts (node_of e) ≡ Some p) × Allowed p e
+MayTake e n = (p : CorePart) × (part_in n.parts (core_node_of e) ≡ Some p) × CoreAllowed p e
 
--- the node holds the part of the primary
+-- the node holds the part of the primary, which is one of the run's. It tells no part, so a ghost field may keep it
 abbrev pub HoldsPart : NodeView → ℕ → Type 0
-HoldsPart n p = (q : CorePart) × (part_in n.parts p ≡ Some q) × IsNode q.trx.opening p
+HoldsPart n p = (¬ (part_in n.parts p ≡ None)) × ((q : CorePart) → part_in n.parts p ≡ Some q → IsNode q.trx.opening p)
 
 -- the part of one primary changed, where it is held
-abbrev pub changed : View CorePart → ℕ → (CorePart → CorePart) → Option CorePart → View CorePart
-changed v n f (Some p) = with_part v n (f p)
-changed v n f None = v
+abbrev pub changed_part : View CorePart → ℕ → (CorePart → CorePart) → Option CorePart → View CorePart
+changed_part v n f (Some p) = with_part v n (f p)
+changed_part v n f None = v
+
+-- the pages whose frames a node carries after a step that found this word
+abbrev pub frames_after : CoreEvent → ℕ → List ℕ → List ℕ
+frames_after (Trx e) found pages = pages
 
 -- the node after a step that found this word and made this note: the part of the step's primary is what the step makes of it
-abbrev pub turned : NodeView → CoreEvent → ℕ → Note → NodeView
-turned n e found x = record { run = n.run; parts = changed n.parts (node_of e) (made e found x) (part_in n.parts (node_of e)); frames = n.frames }
+abbrev pub node_after : NodeView → CoreEvent → ℕ → Note → NodeView
+node_after n e found x = record { run = n.run; parts = changed_part n.parts (core_node_of e) (core_made e found x) (part_in n.parts (core_node_of e)); frames = frames_after e found n.frames }
 
 -- What a node knows holds in some world that can be reached, from an opening whose numbers fit
 pub record Reached (n : NodeView) : Type 0 where
-  pub fair : IsFair n.run.opening
+  pub fair : NumbersFit n.run.opening
   pub backed : Backed (core n.run.opening) n.parts
 
--- The node took the step, and the step found this word: steps came before it, each allowed when it came, whose world agrees with what the node knew and has this word there
+-- The step came after steps that were each allowed when they came: their world has the word found, the note is made of it, and it agrees with the parts before; the parts after agree with the world that the step leads to
+pub record Behind (o : CoreOpening) (e : CoreEvent) (before after : View CorePart) (found : ℕ) (x : Note) : Type 0 where
+  pub events : List CoreEvent
+  pub allowed : AllAllowed (core o) (e ∷ events)
+  pub found_is : core_content (run (core o) events) (core_place_of e) ≡ found
+  pub noted : (core o).note (run (core o) events) e ≡ x
+  pub agreed : ViewAgrees (core_part (run (core o) events)) before
+  pub agrees : ViewAgrees (core_part (run (core o) (e ∷ events))) after
+
+-- The node took the step, which found this word, and what it knows then is reached
 pub record Took (e : CoreEvent) (before : NodeView) (found : ℕ) (after : NodeView) : Type 0 where
   pub note : Note
-  pub becomes : after ≡ turned before e found note
-  pub came : Came (core before.run.opening) e (before.parts, before.frames) found note (after.parts, after.frames)
+  pub becomes : after ≡ node_after before e found note
+  pub came : Behind before.run.opening e before.parts after.parts found note
   pub reached : Reached after
 
 -- the same of a step that does not tell what it found

@@ -5,6 +5,7 @@
 mod node;
 mod shared;
 mod slot_counts;
+mod system;
 mod trx_steps;
 
 pub use mp_core_trx::Base;

@@ -3,29 +3,32 @@ ghost use Rattle.std.specs.Prelude.{◌≡◌, IfSome};
 ghost use Rattle.mp_shared.specs.Nodes.{HoldsPart, Reached};
 ghost use Rattle.mp_shared.specs.Slots.{next_slot, CanUse};
 
+use crate::shared::Shared;
 use crate::slot_counts::SlotCounts;
-use mp_core::{Core, CoreOpening};
+use crate::system::Core;
 use mp_core_trx::SLOTS;
 use mp_machine::Seat;
 use std::marker::Model;
+use std::snapshot::Snapshot;
 
-/// The parts of one or more primaries. No two nodes of a table hold one part.
+/// The parts of one or more primaries, and of which table they are. No two nodes of a table hold one part.
 #[derive(Drop)]
 pub struct Node {
     pub(crate) seat: Seat<Core>,
-    pub(crate) opening: CoreOpening,
+    pub(crate) run: Snapshot<Shared>,
     pub(crate) counts: SlotCounts,
 }
 
 impl Model for Node {
+    ghost use Rattle.std.specs.Prelude.{map};
     ghost use Rattle.mp_shared.specs.Nodes.{NodeView};
-    ghost use Rattle.mp_shared.specs.Slots.{IsKept};
+    ghost use Rattle.mp_shared.specs.Slots.{IsKeptNode};
 
     ghost Value = { NodeView };
 
-    ghost view = { λ n. record { run = record { table_id = n.seat.table_id; opening = n.opening }; parts = n.seat.me.0; frames = n.seat.me.1 } };
+    ghost view = { λ n. record { run = n.run.value; parts = n.seat.me.0; frames = map (λ x. x.0) n.seat.me.1 } };
 
-    ghost invariant = { λ n. IsKept n.opening n.seat.me.0 n.counts.used };
+    ghost invariant = { λ n. IsKeptNode n.run.value n.seat.table_id n.seat.me.0 n.counts.used };
 }
 
 impl Node {

@@ -2,9 +2,9 @@
 //! part of primary `p` alone, which the node holds. None takes memory or waits.
 ghost use Rattle.std.specs.Prelude.{◌≡◌, ◌+◌, ◌-◌, ◌*◌, ◌<◌, ◌≤◌, Some};
 ghost use Rattle.mp_core_trx.specs.declared.event.TrxEvent.TheVariants.{LoadTso, StoreActive, StorePrep, DrawTso, StoreEnd, LoadTit};
-ghost use Rattle.mp_core_trx.specs.Events.{tit, ended as ended_of};
+ghost use Rattle.mp_core_trx.specs.Events.{at_slot, ended as ended_of};
 ghost use Rattle.mp_core.specs.declared.event.CoreEvent.TheVariants.{Trx};
-ghost use Rattle.mp_core.specs.World.{of_trx, index, IsPlace};
+ghost use Rattle.mp_core.specs.World.{of_trx, core_index, IsCorePlace};
 ghost use Rattle.mp_shared.specs.Nodes.{MayTake, Took, TookUnseen, TookNext};
 ghost use Rattle.mp_shared.specs.Slots.{next_slot};
 
@@ -17,8 +17,8 @@ use std::marker::Brand;
 
 /// Where the word of a slot lies.
 fn slot_word(p: u8, slot: u16) -> usize
-    requires { IsPlace (of_trx (tit p slot)) }
-    ensures { result ≡ index (of_trx (tit p slot)) }
+    requires { IsCorePlace (of_trx (at_slot p slot)) }
+    ensures { result ≡ core_index (of_trx (at_slot p slot)) }
 {
     SLOT_WORDS + (usize::from(p) - 1) * usize::from(SLOTS) + usize::from(slot)
 }
@@ -91,7 +91,7 @@ impl Shared {
         );
     }
 
-    /// Draws a timestamp for the transaction: the oracle's next, which is the answer.
+    /// Draws a timestamp for the transaction: the TSO's next, which is the answer.
     pub fn draw_tso(&self, node: &mut Node, p: u8, id: TrxId) -> u64
         requires run { node.old.run ≡ self.now }
         requires step { MayTake (Trx (DrawTso p id)) node.old }

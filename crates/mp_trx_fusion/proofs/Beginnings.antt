@@ -8,17 +8,17 @@ use Rattle.mp_core_trx.specs.declared.opening.TheConstants.{SLOTS}
 use Rattle.mp_core_trx.specs.declared.opening.TrxOpening.{TrxOpening}
 use Rattle.mp_core_trx.specs.declared.part.Begun.{Begun}
 use Rattle.mp_core_trx.specs.declared.event.TrxEvent.TheVariants.{LoadTso, StoreActive}
-use Rattle.mp_core_trx.specs.Lists.{IsIn}
-use Rattle.mp_core_trx.specs.Parts.{trx, begin_of, newest}
+use Rattle.mp_machine.specs.Lists.{IsIn}
+use Rattle.mp_core_trx.specs.Parts.{trx, begun_of, newest}
 use Rattle.mp_core_trx.specs.World.{begun_in}
 use Rattle.mp_core_trx.proofs.Bounds.{room_to_begin}
 use Rattle.mp_core.specs.declared.part.CorePart.{CorePart}
 use Rattle.mp_core.specs.declared.event.CoreEvent.TheVariants.{Trx}
-use Rattle.mp_core.specs.World.{part, made, core}
+use Rattle.mp_core.specs.World.{core_part, core_made, core}
 use Rattle.mp_core.proofs.Law.{law}
-use Rattle.mp_shared.specs.Nodes.{NodeView, Reached, MayTake, changed, Took, TookUnseen}
+use Rattle.mp_shared.specs.Nodes.{NodeView, Reached, MayTake, changed_part, Took, TookUnseen}
 use Rattle.mp_shared.specs.Slots.{used_by, slot_after, next_slot, CanUse}
-use Rattle.mp_trx_fusion.specs.Calls.{with_trx, began, MayBegin}
+use Rattle.mp_trx_fusion.specs.Calls.{with_trx, with_begin, MayBegin}
 use Rattle.mp_trx_fusion.proofs.Sights.{newest_seen}
 
 with_part_twice : {P : Type 0} (v : View P) (n : ℕ) (p q : P) → with_part (with_part v n p) n q ≡ with_part v n q
@@ -50,7 +50,7 @@ some_left v p version r may none few =
     let w = run (core o) r.backed.0 in
     let i = law o r.fair r.backed.0 r.backed.1 in
     let q = may.mine in
-    let is : part w p ≡ q = r.backed.2 p q may.holds in
+    let is : core_part w p ≡ q = r.backed.2 p q may.holds in
     let carries : q.trx.opening ≡ o.trx = sym (ap (λ (x : CorePart). x.trx.opening) is) ∙ i.trx.carried p in
     let begun : q.trx.begun ≡ begun_in w.trx p = sym (ap (λ (x : CorePart). x.trx.begun) is) in
     let room = room_to_begin o.trx w.trx i.trx p (trx p 0 version)
@@ -62,12 +62,12 @@ some_left v p version r may none few =
     absurd (omega (arith, room, all, count, few))
 
 module _ (p version slot view : ℕ) (before mid : NodeView) (may : MayBegin before p version) (load : Took (Trx (LoadTso p)) before view mid) where
-  -- its part once it loaded the oracle
+  -- its part once it loaded the TSO
   abbrev loaded_part : CorePart
-  loaded_part = made (Trx (LoadTso p)) view load.note may.mine
+  loaded_part = core_made (Trx (LoadTso p)) view load.note may.mine
 
   mid_parts : mid.parts ≡ with_part before.parts p loaded_part
-  mid_parts = ap (λ (x : NodeView). x.parts) load.becomes ∙ ap (changed before.parts p (made (Trx (LoadTso p)) view load.note)) may.holds
+  mid_parts = ap (λ (x : NodeView). x.parts) load.becomes ∙ ap (changed_part before.parts p (core_made (Trx (LoadTso p)) view load.note)) may.holds
 
   mid_holds : part_in mid.parts p ≡ Some loaded_part
   mid_holds = ap (λ v. part_in v p) mid_parts ∙ part_in-with_here before.parts p loaded_part may.mine may.holds
@@ -76,26 +76,27 @@ module _ (p version slot view : ℕ) (before mid : NodeView) (may : MayBegin bef
   may_store is usable = (
     loaded_part,
     mid_holds,
-    (may.node, record { own = refl; above = may.above; within = may.within; fresh = may.fresh; in_range = next_in_range (used_by (part_in before.parts p)) slot is; usable = usable may.mine may.holds }),
+    ((may.node, record { own = refl; above = may.above; within = may.within; fresh = may.fresh; in_range = next_in_range (used_by (part_in before.parts p)) slot is; usable = usable may.mine may.holds }), tt),
   )
 
   pub next_stays : next_slot before p ≡ Some slot → next_slot mid p ≡ Some slot
   next_stays is = ap (λ x. slot_after (used_by x)) mid_holds ∙ sym (ap (λ x. slot_after (used_by x)) may.holds) ∙ is
 
-  -- the view is the oracle as it was loaded
+  -- the view is the TSO as it was loaded
   view_is : newest loaded_part.trx ≡ view
   view_is = let below = newest_seen p before mid view load may.mine may.holds in omega arith
 
-  pub becomes : (after : NodeView) → TookUnseen (Trx (StoreActive p (trx p slot version))) mid after → after ≡ with_trx before p (began (begin_of (trx p slot version) view))
+  pub becomes : (after : NodeView) → TookUnseen (Trx (StoreActive p (trx p slot version))) mid after → after ≡ with_trx before p (with_begin (begun_of (trx p slot version) view)) 2
   becomes after store =
       let e = Trx (StoreActive p (trx p slot version)) in
-      let f = made e store.0 store.1.note in
-      let now : CorePart = record { trx = began (begin_of (trx p slot version) view) may.mine.trx } in
-      let same : f loaded_part ≡ now = λ i. record { trx = record (began (begin_of (trx p slot version) view) may.mine.trx) { begun = begin_of (trx p slot version) (view_is i) ∷ may.mine.trx.begun } } in
+      let f = core_made e store.0 store.1.note in
+      let now : CorePart = record { trx = with_begin (begun_of (trx p slot version) view) may.mine.trx; ops = may.mine.ops + 2 } in
+      let two : may.mine.ops + 1 + 1 ≡ may.mine.ops + 2 = omega arith in
+      let same : f loaded_part ≡ now = λ i. record { trx = record (with_begin (begun_of (trx p slot version) view) may.mine.trx) { begun = begun_of (trx p slot version) (view_is i) ∷ may.mine.trx.begun }; ops = two i } in
       let parts : after.parts ≡ with_part before.parts p now =
-      ap (λ (x : NodeView). x.parts) store.1.becomes ∙ ap (changed mid.parts p f) mid_holds ∙ ap (λ v. with_part v p (f loaded_part)) mid_parts ∙ with_part_twice before.parts p loaded_part (f loaded_part) ∙ ap (with_part before.parts p) same in
-      let goal_parts : with_part before.parts p now ≡ (with_trx before p (began (begin_of (trx p slot version) view))).parts =
-      sym (ap (changed before.parts p (λ q. record q { trx = began (begin_of (trx p slot version) view) q.trx })) may.holds) in
+      ap (λ (x : NodeView). x.parts) store.1.becomes ∙ ap (changed_part mid.parts p f) mid_holds ∙ ap (λ v. with_part v p (f loaded_part)) mid_parts ∙ with_part_twice before.parts p loaded_part (f loaded_part) ∙ ap (with_part before.parts p) same in
+      let goal_parts : with_part before.parts p now ≡ (with_trx before p (with_begin (begun_of (trx p slot version) view)) 2).parts =
+      sym (ap (changed_part before.parts p (λ q. record q { trx = with_begin (begun_of (trx p slot version) view) q.trx; ops = q.ops + 2 })) may.holds) in
       let run_is : after.run ≡ before.run = ap (λ (x : NodeView). x.run) store.1.becomes ∙ ap (λ (x : NodeView). x.run) load.becomes in
       let frames_are : after.frames ≡ before.frames = ap (λ (x : NodeView). x.frames) store.1.becomes ∙ ap (λ (x : NodeView). x.frames) load.becomes in
       λ i. record { run = run_is i; parts = (parts ∙ goal_parts) i; frames = frames_are i }

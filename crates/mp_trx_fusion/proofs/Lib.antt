@@ -2,6 +2,5 @@ pub mod Sights
 pub mod Beginnings
 pub mod Standing
 pub mod Callers
-mod FreshRuns
+pub mod FreshRuns
 mod Worked
-mod Looks

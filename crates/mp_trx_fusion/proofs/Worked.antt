@@ -1,15 +1,16 @@
 -- Small nodes and words that show what the definitions say.
 use Rattle.std.proofs.Common.{◌≡◌, Some, None, inl, refl, sym, subst, arith, lit<, lit≤}
 use Rattle.mp_model.specs.declared.ids.TrxId.{TrxId}
-use Rattle.mp_core_trx.specs.Parts.{trx, begin_of, newcomer}
+use Rattle.mp_core_trx.specs.Parts.{trx, begun_of, first_trx_part}
 use Rattle.mp_core_trx.specs.declared.part.Begun.{Begun}
-use Rattle.mp_core_trx.specs.Lists.{IsIn}
+use Rattle.mp_machine.specs.Lists.{IsIn}
 use Rattle.mp_core.specs.declared.part.CorePart.{CorePart}
 use Rattle.mp_core_trx.specs.Words.{shown_of}
 use Rattle.mp_shared.specs.Nodes.{Run, NodeView, opening_of, first_node, node_of_one}
 use Rattle.mp_shared.specs.Slots.{next_slot}
 use Rattle.mp_trx_fusion.specs.declared.slot_status.SlotStatus.TheVariants.{Prep, Committed, Other}
-use Rattle.mp_trx_fusion.specs.Calls.{with_trx, began, drew, clock_of, MayBegin}
+use Rattle.mp_core_trx.specs.Events.{with_draw}
+use Rattle.mp_trx_fusion.specs.Calls.{with_trx, with_begin, tso_of, MayBegin}
 use Rattle.mp_trx_fusion.specs.Statuses.{status_of}
 
 abbrev first : TrxId
@@ -35,10 +36,10 @@ module _ (r : Run) where
   fresh = first_node (record r { opening = opening_of record { ts = 0; llsn = 0; version = 0 } 2 2 })
 
   abbrev one_begun : NodeView
-  one_begun = with_trx fresh 1 (began (begin_of first 0))
+  one_begun = with_trx fresh 1 (with_begin (begun_of first 0)) 2
 
   abbrev one_part : CorePart
-  one_part = record { trx = began (begin_of first 0) (newcomer fresh.run.opening.trx) }
+  one_part = record { trx = with_begin (begun_of first 0) (first_trx_part fresh.run.opening.trx); ops = 2 }
 
   -- each transaction takes its primary's next slot
   slot_of_first : next_slot fresh 1 ≡ Some 0
@@ -54,11 +55,11 @@ module _ (r : Run) where
   slot_of_nobody : next_slot (node_of_one 1 fresh) 2 ≡ None
   slot_of_nobody = refl
 
-  -- the oracle is at as many timestamps as were drawn
-  none_drawn : clock_of fresh ≡ 0
+  -- the TSO is at as many timestamps as were drawn
+  none_drawn : tso_of fresh ≡ 0
   none_drawn = refl
 
-  one_drawn : clock_of (with_trx one_begun 1 (drew first 1)) ≡ 1
+  one_drawn : tso_of (with_trx one_begun 1 (with_draw first 1) 1) ≡ 1
   one_drawn = refl
 
   -- a version is used once, and the base version by nobody
@@ -69,7 +70,7 @@ module _ (r : Run) where
   not_again may =
       let has : Some one_part ≡ Some may.mine = may.holds in
       let is : one_part ≡ may.mine = cc in
-      subst (λ (q : CorePart). (b : Begun) → IsIn b q.trx.begun → ¬ (b.id.version ≡ 1)) (sym is) may.fresh (begin_of first 0) (inl refl) refl
+      subst (λ (q : CorePart). (b : Begun) → IsIn b q.trx.begun → ¬ (b.id.version ≡ 1)) (sym is) may.fresh (begun_of first 0) (inl refl) refl
 
   not_the_base : MayBegin fresh 1 0 → ⊥
   not_the_base may = let above = may.above in absurd (omega arith)

@@ -3,7 +3,8 @@ ghost use Rattle.std.specs.Prelude.{◌≡◌, ◌+◌, ◌<◌, Some, None};
 ghost use Rattle.mp_core_trx.specs.declared.event.TrxEvent.TheVariants.{StorePrep, DrawTso, StoreEnd};
 ghost use Rattle.mp_core.specs.declared.event.CoreEvent.TheVariants.{Trx};
 ghost use Rattle.mp_shared.specs.Nodes.{MayTake, Reached};
-ghost use Rattle.mp_trx_fusion.specs.Calls.{with_trx, prepared, drew, ended_with, IsNext, KnowsLess, HoldsAll, clock_of};
+ghost use Rattle.mp_core_trx.specs.Events.{with_prep, with_draw, with_end};
+ghost use Rattle.mp_trx_fusion.specs.Calls.{with_trx, IsNextTimestamp, KnowsLess, HoldsAll, tso_of};
 
 use mp_model::TrxId;
 use mp_shared::{Node, Shared};
@@ -12,7 +13,7 @@ use mp_shared::{Node, Shared};
 pub fn prepare(shared: &Shared, node: &mut Node, p: u8, id: TrxId)
     requires run { node.old.run ≡ shared.now }
     requires may { MayTake (Trx (StorePrep p id)) node.old }
-    ensures becomes { node.new ≡ with_trx node.old p (prepared id) }
+    ensures becomes { node.new ≡ with_trx node.old p (with_prep id) 1 }
     ensures reached { Reached node.new }
 {
     shared.store_prep(node, p, id);
@@ -23,10 +24,10 @@ pub fn prepare(shared: &Shared, node: &mut Node, p: u8, id: TrxId)
 pub fn draw(shared: &Shared, node: &mut Node, p: u8, id: TrxId) -> u64
     requires run { node.old.run ≡ shared.now }
     requires may { MayTake (Trx (DrawTso p id)) node.old }
-    ensures becomes { node.new ≡ with_trx node.old p (drew id result) }
-    ensures next { IsNext node.old result }
+    ensures becomes { node.new ≡ with_trx node.old p (with_draw id result) 1 }
+    ensures next { IsNextTimestamp node.old result }
     ensures above { KnowsLess node.old p result }
-    ensures exact { HoldsAll node.old → result ≡ clock_of node.old + 1 }
+    ensures exact { HoldsAll node.old → result ≡ tso_of node.old + 1 }
     ensures reached { Reached node.new }
 {
     shared.draw_tso(node, p, id)
@@ -36,7 +37,7 @@ pub fn draw(shared: &Shared, node: &mut Node, p: u8, id: TrxId) -> u64
 pub fn publish(shared: &Shared, node: &mut Node, p: u8, id: TrxId, cts: u64)
     requires run { node.old.run ≡ shared.now }
     requires may { MayTake (Trx (StoreEnd p id (Some cts))) node.old }
-    ensures becomes { node.new ≡ with_trx node.old p (ended_with id (Some cts)) }
+    ensures becomes { node.new ≡ with_trx node.old p (with_end id (Some cts)) 1 }
     ensures reached { Reached node.new }
 {
     shared.store_end(node, p, id, Some(cts));
@@ -46,7 +47,7 @@ pub fn publish(shared: &Shared, node: &mut Node, p: u8, id: TrxId, cts: u64)
 pub fn free(shared: &Shared, node: &mut Node, p: u8, id: TrxId)
     requires run { node.old.run ≡ shared.now }
     requires may { MayTake (Trx (StoreEnd p id None)) node.old }
-    ensures becomes { node.new ≡ with_trx node.old p (ended_with id None) }
+    ensures becomes { node.new ≡ with_trx node.old p (with_end id None) 1 }
     ensures reached { Reached node.new }
 {
     shared.store_end(node, p, id, None);

@@ -6,7 +6,6 @@
 mod commit;
 mod sight;
 mod slot_status;
-pub mod trial;
 
 pub use commit::{draw, free, prepare, publish};
 pub use mp_core_trx::Begun;

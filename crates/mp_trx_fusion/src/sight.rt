@@ -1,9 +1,10 @@
 //! What a primary sees of the timestamp oracle, and how its transactions begin.
-ghost use Rattle.std.specs.Prelude.{◌≡◌, ◌≤◌, Some, IfOk, IfErr, IsOk};
+ghost use Rattle.std.specs.Prelude.{◌≡◌, ◌≤◌, Some, None, IfOk, IfErr, IsOk};
 ghost use Rattle.mp_core_trx.specs.declared.opening.TheConstants.{SLOTS};
 ghost use Rattle.mp_shared.specs.Nodes.{HoldsPart, Reached};
 ghost use Rattle.mp_shared.specs.Slots.{next_slot, CanUse};
-ghost use Rattle.mp_trx_fusion.specs.Calls.{with_trx, saw, began, Knows, HoldsAll, clock_of, MayBegin};
+ghost use Rattle.mp_core_trx.specs.Events.{with_seen};
+ghost use Rattle.mp_trx_fusion.specs.Calls.{with_trx, with_begin, Knows, HoldsAll, tso_of, MayBegin, no_slot_for};
 
 use mp_core_trx::Begun;
 use mp_model::{NotYet, TrxId, WordKind};
@@ -14,9 +15,9 @@ use mp_shared::{Node, Shared};
 pub fn view(shared: &Shared, node: &mut Node, p: u8) -> u64
     requires run { node.old.run ≡ shared.now }
     requires part { HoldsPart node.old p }
-    ensures becomes { node.new ≡ with_trx node.old p (saw result) }
+    ensures becomes { node.new ≡ with_trx node.old p (with_seen result) 1 }
     ensures newest { Knows node.old p result }
-    ensures exact { HoldsAll node.old → result ≡ clock_of node.old }
+    ensures exact { HoldsAll node.old → result ≡ tso_of node.old }
     ensures reached { Reached node.new }
 {
     shared.load_tso(node, p)
@@ -30,10 +31,11 @@ pub fn begin(shared: &Shared, node: &mut Node, p: u8, version: u32) -> Result<Be
     requires run { node.old.run ≡ shared.now }
     requires may { MayBegin node.old p version }
     ensures begun { IfOk result (λ b. (b.id.node ≡ p) × (b.id.version ≡ version) × (next_slot node.old p ≡ Some b.id.slot) × CanUse node.old p b.id.slot) }
-    ensures becomes { IfOk result (λ b. node.new ≡ with_trx node.old p (began b)) }
+    ensures becomes { IfOk result (λ b. node.new ≡ with_trx node.old p (with_begin b) 2) }
     ensures newest { IfOk result (λ b. Knows node.old p b.view) }
-    ensures exact { IfOk result (λ b. HoldsAll node.old → b.view ≡ clock_of node.old) }
+    ensures exact { IfOk result (λ b. HoldsAll node.old → b.view ≡ tso_of node.old) }
     ensures refused { IfErr result (λ _. node.new ≡ node.old) }
+    ensures only { IfErr result (λ w. (next_slot node.old p ≡ None) × (w ≡ no_slot_for p)) }
     ensures room { node.old.run.opening.trx.begins ≤ SLOTS → IsOk result }
     ensures reached { Reached node.new }
 {

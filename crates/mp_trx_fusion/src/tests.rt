@@ -1,11 +1,8 @@
-//! One commit that two primaries see, one transaction that is freed, and four threads over one table.
-ghost use Rattle.std.specs.Prelude.{◌<◌};
+//! One commit that two primaries see, and one transaction that is freed.
 
-use crate::trial::{Together, commit_together};
 use crate::{Begun, SlotStatus, begin, draw, free, prepare, publish, status, view};
 use mp_model::{Memory, TrxId};
 use mp_shared::{Base, Node, Shared};
-use std::alloc::AllocError;
 
 const FRESH: Base = Base {
     ts: 0,
@@ -58,28 +55,5 @@ fn a_freed_transaction_shows_free(rt: HostRuntime) -> Result<(), Memory> {
     assert_eq!(rt; after, SlotStatus::Free);
     assert_eq!(rt; of_none, SlotStatus::Other);
     shared.close(node);
-    Ok(())
-}
-
-/// Whether the timestamps are 1 to 800, each once.
-fn are_all(mut drawn: Vec<u64>) -> Result<bool, AllocError> {
-    drawn.sort()?;
-    for n in 0..800u16 {
-        if drawn.get(usize::from(n)) != Some(&(u64::from(n) + 1)) {
-            return Ok(false);
-        }
-    }
-    Ok(drawn.len() == 800)
-}
-
-#[test]
-fn four_threads_draw_each_timestamp_once(rt: HostRuntime) -> Result<(), Memory> {
-    let Together { drawn, newest } = commit_together(&rt, rt.alloc())?;
-    let mut all = Vec::new(rt.alloc());
-    for part in &drawn {
-        all.extend_from_slice(part)?;
-    }
-    assert!(rt; are_all(all)?);
-    assert_eq!(rt; newest, 800);
     Ok(())
 }

@@ -3,7 +3,8 @@ use Rattle.mp_machine.specs.View.{part_in}
 use Rattle.mp_core_trx.specs.declared.event.TrxEvent.TheVariants.{StorePrep}
 use Rattle.mp_core_trx.specs.Parts.{trx}
 use Rattle.mp_shared.specs.Slots.{used_by}
-use Rattle.mp_trx_fusion.specs.Calls.{began, ended_with, loaded_slot}
+use Rattle.mp_core_trx.specs.Events.{with_end, with_slot_load}
+use Rattle.mp_trx_fusion.specs.Calls.{with_begin}
 use Rattle.mp_trx_fusion.proofs.Beginnings.{next_in_range}
 use Rattle.mp_trx_fusion.proofs.Callers.{may_prepare, may_free, may_take_looked, may_look_here}
 use Rattle.mp_trx_fusion.proofs.FreshRuns.{may_begin_fresh, may_look_fresh}
@@ -15,7 +16,7 @@ begin-requires-clause-may g c = may_begin_fresh 2 1 c.in_ok-shared.shared c.in_o
 pub status-before-requires-clause-may : goal.status-before-requires-clause-may
 status-before-requires-clause-may g c =
     let b = c.in-Ok.begun in
-    may_look_here c.in_ok-shared.node c.begin.new.node 1 (began b) c.in-Ok.ensures.becomes (b.id) (λ q. refl) (may_look_fresh 2 1 c.in_ok-shared.shared c.in_ok-shared.node c.in_ok-shared.ensures.opened.0 c.in_ok-shared.ensures.opened.1 1 b.id (lit≤ tt) (lit≤ tt) (subst (λ k. (1 ≤ k) × (k ≤ 2)) (sym c.in-Ok.ensures.begun.0) (lit≤ tt, lit≤ tt)) (next_in_range (used_by (part_in c.in_ok-shared.node.parts 1)) b.id.slot c.in-Ok.ensures.begun.2))
+    may_look_here c.in_ok-shared.node c.begin.new.node 1 (with_begin b) _ c.in-Ok.ensures.becomes (b.id) (λ q. refl) (may_look_fresh 2 1 c.in_ok-shared.shared c.in_ok-shared.node c.in_ok-shared.ensures.opened.0 c.in_ok-shared.ensures.opened.1 1 b.id (lit≤ tt) (lit≤ tt) (subst (λ k. (1 ≤ k) × (k ≤ 2)) (sym c.in-Ok.ensures.begun.0) (lit≤ tt, lit≤ tt)) (next_in_range (used_by (part_in c.in_ok-shared.node.parts 1)) b.id.slot c.in-Ok.ensures.begun.2))
 
 pub free-requires-clause-may : goal.free-requires-clause-may
 free-requires-clause-may g c =
@@ -27,11 +28,11 @@ pub status-after-requires-clause-may : goal.status-after-requires-clause-may
 status-after-requires-clause-may g c =
     let b = c.in-Ok.begun in
     let seen = c.status-before.ensures.shown in
-    may_look_here c.status-before.new.node c.free.new.node 1 (ended_with b.id None) c.free.ensures.becomes (b.id) (λ q. refl) (may_look_here c.begin.new.node c.status-before.new.node 1 (loaded_slot b.id seen.0) seen.2 (b.id) (λ q. refl) (may_look_here c.in_ok-shared.node c.begin.new.node 1 (began b) c.in-Ok.ensures.becomes (b.id) (λ q. refl) (may_look_fresh 2 1 c.in_ok-shared.shared c.in_ok-shared.node c.in_ok-shared.ensures.opened.0 c.in_ok-shared.ensures.opened.1 1 b.id (lit≤ tt) (lit≤ tt) (subst (λ k. (1 ≤ k) × (k ≤ 2)) (sym c.in-Ok.ensures.begun.0) (lit≤ tt, lit≤ tt)) (next_in_range (used_by (part_in c.in_ok-shared.node.parts 1)) b.id.slot c.in-Ok.ensures.begun.2))))
+    may_look_here c.status-before.new.node c.free.new.node 1 (with_end b.id None) _ c.free.ensures.becomes (b.id) (λ q. refl) (may_look_here c.begin.new.node c.status-before.new.node 1 (with_slot_load b.id.node b.id.slot seen.0) _ seen.2 (b.id) (λ q. refl) (may_look_here c.in_ok-shared.node c.begin.new.node 1 (with_begin b) _ c.in-Ok.ensures.becomes (b.id) (λ q. refl) (may_look_fresh 2 1 c.in_ok-shared.shared c.in_ok-shared.node c.in_ok-shared.ensures.opened.0 c.in_ok-shared.ensures.opened.1 1 b.id (lit≤ tt) (lit≤ tt) (subst (λ k. (1 ≤ k) × (k ≤ 2)) (sym c.in-Ok.ensures.begun.0) (lit≤ tt, lit≤ tt)) (next_in_range (used_by (part_in c.in_ok-shared.node.parts 1)) b.id.slot c.in-Ok.ensures.begun.2))))
 
 pub status-of_none-requires-clause-may : goal.status-of_none-requires-clause-may
 status-of_none-requires-clause-may g c =
     let b = c.in-Ok.begun in
     let seen = c.status-before.ensures.shown in
     let again = c.status-after.ensures.shown in
-    may_look_here c.free.new.node c.status-after.new.node 1 (loaded_slot b.id again.0) again.2 (trx 2 0 1) (λ q. refl) (may_look_here c.status-before.new.node c.free.new.node 1 (ended_with b.id None) c.free.ensures.becomes (trx 2 0 1) (λ q. refl) (may_look_here c.begin.new.node c.status-before.new.node 1 (loaded_slot b.id seen.0) seen.2 (trx 2 0 1) (λ q. refl) (may_look_here c.in_ok-shared.node c.begin.new.node 1 (began b) c.in-Ok.ensures.becomes (trx 2 0 1) (λ q. refl) (may_look_fresh 2 1 c.in_ok-shared.shared c.in_ok-shared.node c.in_ok-shared.ensures.opened.0 c.in_ok-shared.ensures.opened.1 1 (trx 2 0 1) (lit≤ tt) (lit≤ tt) (lit≤ tt, lit≤ tt) (lit< tt)))))
+    may_look_here c.free.new.node c.status-after.new.node 1 (with_slot_load b.id.node b.id.slot again.0) _ again.2 (trx 2 0 1) (λ q. refl) (may_look_here c.status-before.new.node c.free.new.node 1 (with_end b.id None) _ c.free.ensures.becomes (trx 2 0 1) (λ q. refl) (may_look_here c.begin.new.node c.status-before.new.node 1 (with_slot_load b.id.node b.id.slot seen.0) _ seen.2 (trx 2 0 1) (λ q. refl) (may_look_here c.in_ok-shared.node c.begin.new.node 1 (with_begin b) _ c.in-Ok.ensures.becomes (trx 2 0 1) (λ q. refl) (may_look_fresh 2 1 c.in_ok-shared.shared c.in_ok-shared.node c.in_ok-shared.ensures.opened.0 c.in_ok-shared.ensures.opened.1 1 (trx 2 0 1) (lit≤ tt) (lit≤ tt) (lit≤ tt, lit≤ tt) (lit< tt)))))

@@ -1,9 +1,11 @@
 use Rattle.std.proofs.Common.{subst}
 use Rattle.mp_shared.specs.Nodes.{Reached}
 use Rattle.mp_shared.proofs.Numbered.{numbered}
+use Rattle.mp_shared.proofs.Holding.{held_part}
 use Rattle.mp_shared.proofs.node.Node.next_slot.Goals as goal
 
 pub get-requires : goal.get-requires
 get-requires c =
     let reached : Reached c.args.self.now = subst Reached c.self.view_is record { fair = c.self.invariant.fair; backed = c.self.invariant.backed } in
-    numbered c.args.self.now reached c.args.p c.requires.0 c.requires.1 c.requires.2
+    let held = held_part c.args.self.now c.args.p c.requires in
+    numbered c.args.self.now reached c.args.p held.0 held.1 held.2

@@ -1,5 +1,0 @@
-use Rattle.mp_machine.specs.declared.example.Event.TheVariants.{Lock}
-use Rattle.mp_machine.proofs.example.desk.Desk.lock.Given as goal
-
-abbrev pub ghosts-compare_exchange : goal.ghosts-compare_exchange
-ghosts-compare_exchange a = record { event = Lock a._about.now; opening = a.self.now.table.shared.key }

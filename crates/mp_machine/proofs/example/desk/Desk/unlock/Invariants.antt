@@ -1,5 +1,0 @@
-use Rattle.mp_machine.specs.declared.example.Event.TheVariants.{Unlock}
-use Rattle.mp_machine.proofs.example.desk.Desk.unlock.Given as goal
-
-abbrev pub ghosts-store : goal.ghosts-store
-ghosts-store a = record { event = Unlock a._about.now.0 a._about.now.1; opening = a.self.now.table.shared.key }

@@ -1,0 +1,44 @@
+//! The joint machine, for the table that runs it.
+
+use mp_core::{CoreEvent, CoreOpening, CorePart};
+use mp_machine::{NamesEvent, System};
+use std::marker::Brand;
+
+/// What a slot of the table holds: nothing yet.
+pub type Frame = ();
+
+/// The machine.
+pub struct Core;
+
+impl System for Core {
+    type Slot = Frame;
+
+    type Part = CorePart;
+
+    type Opening = CoreOpening;
+
+    type Event = CoreEvent;
+
+    ghost use Rattle.mp_core.specs.World.{CorePlace, CoreWorld, Note as CoreNote, core};
+    ghost use Rattle.mp_core.specs.CoreLaws.{core_laws};
+
+    ghost Place = { CorePlace };
+
+    ghost Note = { CoreNote };
+
+    ghost World = { CoreWorld };
+
+    ghost machine = { core };
+
+    ghost laws = { core_laws };
+}
+
+impl NamesEvent<Core, CoreEvent, CoreOpening> for Brand {
+    ghost use Rattle.mp_core_trx.specs.declared.event.TrxEvent.TheVariants.{LoadTso};
+    ghost use Rattle.mp_core.specs.declared.event.CoreEvent.TheVariants.{Trx};
+    ghost use Rattle.mp_core.specs.World.{empty_opening};
+
+    ghost event = { Trx (LoadTso 0) };
+
+    ghost opening = { empty_opening };
+}

@@ -1,0 +1,8 @@
+-- Which transactions a trial may begin.
+use Rattle.std.specs.Prelude.{ℕ, ◌+◌, ◌<◌, ◌≤◌}
+use Rattle.mp_shared.specs.Nodes.{NodeView}
+use Rattle.mp_trx_fusion.specs.Calls.{MayBegin}
+
+-- the primary may begin with each of so many versions that follow one another
+abbrev pub MayBeginEach : NodeView → ℕ → ℕ → ℕ → Type 0
+MayBeginEach n p after count = (version : ℕ) → after < version → version ≤ after + count → MayBegin n p version
