@@ -1,0 +1,14 @@
+pub mod Choices
+pub mod LockWords
+pub mod Rows
+pub mod Places
+pub mod Prefixes
+pub mod Locks
+pub mod Turns
+pub mod Logs
+pub mod Frames
+pub mod Keeps
+pub mod Law
+pub mod Growth
+pub mod Leaves
+pub mod Bounds
