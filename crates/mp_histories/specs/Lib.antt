@@ -1,0 +1,9 @@
+pub mod KeyOps
+pub mod Commits
+pub mod Histories
+pub mod Stamped
+pub mod Chains
+pub mod Cuts
+pub mod OwnOps
+pub mod Readers
+pub mod SmallHistory
