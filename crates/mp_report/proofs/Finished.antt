@@ -6,12 +6,12 @@ use Rattle.mp_model.specs.declared.transcripts.Mode.{Mode}
 use Rattle.mp_model.specs.declared.transcripts.Mode.TheVariants.{Step, Run}
 use Rattle.mp_model.specs.declared.transcripts.Part.{Part}
 use Rattle.mp_model.specs.declared.transcripts.Transcript.{Transcript}
-use Rattle.mp_report.specs.declared.stands.Stand.TheVariants.{Ended}
-use Rattle.mp_report.specs.Lines.{text_of}
+use Rattle.mp_report.specs.declared.read.stands.Stand.TheVariants.{Ended}
+use Rattle.mp_report.specs.Lines.{text_of_lines}
 use Rattle.mp_report.specs.Answers.{answer_words}
-use Rattle.mp_report.specs.Transcripts.{head_words, primary_lines, part_lines, down_words, end_words, transcript_lines, transcript_text}
+use Rattle.mp_report.specs.Transcripts.{head_words, primary_lines, part_lines, down_words, last_words, transcript_lines, transcript_text}
 use Rattle.mp_report.specs.Readable.{IsStamp, IsAnswer, HasParts, IsReadable, commit_count}
-use Rattle.mp_report.specs.Drafts.{said_by, lines_said, PartsAbove, Reads}
+use Rattle.mp_report.specs.Drafts.{draft_said, lines_said, PartsAbove, ReadsLines}
 use Rattle.mp_report.proofs.DraftsGrow.{more, in_order_more, commits_more}
 
 -- the transcript is that one, with one part more
@@ -30,13 +30,13 @@ has_parts Run parts p above =
 shape : {X : Type 0} (parts primary answers downs : List X) (end : X) → (parts ++ (primary ++ (answers ++ downs))) ++ end ∷ [] ≡ (parts ++ ((primary ++ answers) ++ [])) ++ (downs ++ end ∷ [])
 shape parts primary answers downs end = rw (append-nil (primary ++ answers)) (simp append_assoc)
 
-lines_finished : (t above : Transcript) (p : Part) → IsFinished t above p → lines_said (said_by above p) ++ end_words above.commits ∷ [] ≡ transcript_lines t
+lines_finished : (t above : Transcript) (p : Part) → IsFinished t above p → lines_said (draft_said above p) ++ last_words above.commits ∷ [] ≡ transcript_lines t
 lines_finished t above p is =
     rw (is.mode, is.base, is.parts, is.downs, is.commits, flat_map-append (part_lines above.mode) above.parts.items (p ∷ []))
     (ap (λ ls. head_words above.mode above.base ∷ ls)
-    (shape (flat_map (part_lines above.mode) above.parts.items) (primary_lines above.mode p.primary) (map answer_words p.answers.items) (map down_words above.downs.items) (end_words above.commits)))
+    (shape (flat_map (part_lines above.mode) above.parts.items) (primary_lines above.mode p.primary) (map answer_words p.answers.items) (map down_words above.downs.items) (last_words above.commits)))
 
-pub finished : (t above : Transcript) (p : Part) (bytes : List ℕ) → IsFinished t above p → Reads Ended (said_by above p) bytes → IsReadable t × (bytes ≡ transcript_text t)
+pub finished : (t above : Transcript) (p : Part) (bytes : List ℕ) → IsFinished t above p → ReadsLines Ended (draft_said above p) bytes → IsReadable t × (bytes ≡ transcript_text t)
 unfolding transcript_text
 finished t above p bytes is reads =
     let said = reads.0 in (
@@ -48,5 +48,5 @@ finished t above p bytes is reads =
         count = rw is.commits reads.1;
         commits = is.commits ∙ said.counted ∙ sym (commits_more above.parts.items p) ∙ ap commit_count (sym is.parts);
       },
-      reads.2 ∙ ap text_of (lines_finished t above p is),
+      reads.2 ∙ ap text_of_lines (lines_finished t above p is),
     )

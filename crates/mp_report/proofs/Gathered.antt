@@ -8,11 +8,11 @@ use Rattle.mp_model.specs.declared.transcripts.Mode.TheVariants.{Step, Run}
 use Rattle.mp_model.specs.declared.transcripts.Part.{Part}
 use Rattle.mp_model.specs.declared.transcripts.Down.{Down}
 use Rattle.mp_model.specs.declared.transcripts.Transcript.{Transcript}
-use Rattle.mp_report.specs.declared.lines.Line.{Line}
-use Rattle.mp_report.specs.declared.lines.Line.TheVariants.{Head, Primary, Answered, WentDown, End}
+use Rattle.mp_report.specs.declared.read.lines.Line.{Line}
+use Rattle.mp_report.specs.declared.read.lines.Line.TheVariants.{Head, Primary, Answered, WentDown, End}
 use Rattle.mp_report.specs.Answers.{answer_words}
 use Rattle.mp_report.specs.Bare.{listed, bare_answer, bare_part}
-use Rattle.mp_report.specs.Transcripts.{part_lines, down_words, end_words}
+use Rattle.mp_report.specs.Transcripts.{part_lines, down_words, last_words}
 use Rattle.mp_report.specs.Readable.{IsPrimary, IsDown, IsAnswer}
 use Rattle.mp_report.specs.ReadingLines.{read_line}
 use Rattle.mp_report.proofs.LinesRead.{primary_line_read, answer_line_read, down_read, end_read}
@@ -54,7 +54,7 @@ abbrev pub rest : List Answer → List Part → List Down → ℕ → Gathered
 rest answers parts downs commits = record { mode = Step; base = 0; answers = answers; parts = parts; downs = downs; commits = commits }
 
 pub downs_gathered : (downs : List Down) (commits : ℕ) → AllByRecursion IsDown downs → commits < 2 ^ 64
-    → gathered (map read_line (map down_words downs ++ end_words commits ∷ []) ++ None ∷ []) ≡ rest [] [] downs commits
+    → gathered (map read_line (map down_words downs ++ last_words commits ∷ []) ++ None ∷ []) ≡ rest [] [] downs commits
 downs_gathered [] commits are small = rw (end_read commits small) refl
 downs_gathered (down ∷ downs) commits are small = rw (down_read down are.0, downs_gathered downs commits are.1 small) refl
 

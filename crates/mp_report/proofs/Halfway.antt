@@ -4,28 +4,28 @@ use Rattle.std.proofs.lemmas.Bool.{eqb-true}
 use Rattle.std.proofs.lemmas.List.Splits.{length-slice_split}
 use Rattle.std.specs.Option.{option_and_then}
 use Rattle.std.specs.List.{slice_split}
-use Rattle.mp_report.specs.declared.lines.Line.{Line}
-use Rattle.mp_report.specs.declared.lines.Line.TheVariants.{Head, Primary, Answered, WentDown, End}
+use Rattle.mp_report.specs.declared.read.lines.Line.{Line}
+use Rattle.mp_report.specs.declared.read.lines.Line.TheVariants.{Head, Primary, Answered, WentDown, End}
 use Rattle.mp_model.specs.declared.transcripts.Mode.TheVariants.{Step, Run}
-use Rattle.mp_report.specs.declared.stands.Stand.{Stand}
-use Rattle.mp_report.specs.declared.stands.Stand.TheVariants.{Top, Opened, Among, Downs, Ended}
+use Rattle.mp_report.specs.declared.read.stands.Stand.{Stand}
+use Rattle.mp_report.specs.declared.read.stands.Stand.TheVariants.{Top, Opened, Among, Downs, Ended}
 use Rattle.mp_report.specs.Readable.{is_commit}
 use Rattle.mp_report.specs.Reading.{◌>>=◌, cut_at}
 use Rattle.mp_report.specs.ReadingLines.{words_of, read_line}
-use Rattle.mp_report.specs.Grammar.{allowed, commits_at, next_stand, is_ended, fault_at, fault_in, first_fault}
-use Rattle.mp_report.specs.Drafts.{Said, nothing, Reads}
+use Rattle.mp_report.specs.Grammar.{allowed, commits_at, next_stand, is_ended, fault_at, fault_in, transcript_fault}
+use Rattle.mp_report.specs.Drafts.{TranscriptSaid, nothing, ReadsLines}
 use Rattle.mp_report.proofs.WordsSpelled.{if_cases, if_then, some_inj, then_some, cut_spelled}
 
-pub record Halfway (bytes : List ℕ) (stand : Stand) (said : Said) (rest : List ℕ) : Type 0 where
+pub record Halfway (bytes : List ℕ) (stand : Stand) (said : TranscriptSaid) (rest : List ℕ) : Type 0 where
   pub above : List ℕ
   pub joined : above ++ rest ≡ bytes
-  pub reads : Reads stand said above
-  pub fault : fault_in stand (length above) (slice_split (λ b. b == 10) rest) ≡ first_fault bytes
+  pub reads : ReadsLines stand said above
+  pub fault : fault_in stand (length above) (slice_split (λ b. b == 10) rest) ≡ transcript_fault bytes
   pub room : commits_at stand ≤ length above
 
-pub halfway_start : (bytes : List ℕ) (stand : Stand) (said : Said) → stand ≡ Top → said ≡ nothing → Halfway bytes stand said bytes
-halfway_start bytes stand said top none =
-    subst (λ (s : Stand). Halfway bytes s said bytes) (sym top)
+pub halfway_start : (bytes : List ℕ) (stand : Stand) (said : TranscriptSaid) → stand ≡ Top → said ≡ nothing → Halfway bytes stand said bytes
+halfway_start bytes stand said behind_head none =
+    subst (λ (s : Stand). Halfway bytes s said bytes) (sym behind_head)
     (record { above = []; joined = refl; reads = (none, refl); fault = refl; room = lit≤ tt })
 
 -- a cut at a byte is where the text is split first
@@ -88,8 +88,8 @@ behind_fault : (stand next : Stand) (at : ℕ) (text : List ℕ) (texts : List (
 behind_fault stand next at text [] some e = absurd (omega arith)
 behind_fault stand next at text (other ∷ texts) some e = ap (λ o. fault_at at o (λ n. fault_in n (at + (length text + 1)) (other ∷ texts))) e
 
-pub halfway_next : (bytes : List ℕ) (stand next : Stand) (said new : Said) (rest text below : List ℕ) → Halfway bytes stand said rest → Some (text, below) ≡ cut_at 10 rest
-    → next_stand stand text ≡ Some next → ((above : List ℕ) → Reads stand said above → Reads next new (above ++ (text ++ 10 ∷ []))) → Halfway bytes next new below
+pub halfway_next : (bytes : List ℕ) (stand next : Stand) (said new : TranscriptSaid) (rest text below : List ℕ) → Halfway bytes stand said rest → Some (text, below) ≡ cut_at 10 rest
+    → next_stand stand text ≡ Some next → ((above : List ℕ) → ReadsLines stand said above → ReadsLines next new (above ++ (text ++ 10 ∷ []))) → Halfway bytes next new below
 halfway_next bytes stand next said new rest text below half cut taken reads =
     let at = length half.above in
     let line = then_some (read_line (words_of text)) (allowed stand) next taken in
@@ -112,16 +112,16 @@ fault_here stand at text (other ∷ texts) some e = ap (λ o. fault_at at o (λ 
 place_is : (bytes : List ℕ) (above rest : List ℕ) → above ++ rest ≡ bytes → length above ≡ length bytes - length rest
 place_is bytes above rest joined = omega (arith, ap length joined, length-append above rest)
 
-pub halfway_fault : (bytes : List ℕ) (stand : Stand) (said : Said) (rest text below : List ℕ) → Halfway bytes stand said rest → Some (text, below) ≡ cut_at 10 rest
-    → next_stand stand text ≡ None → first_fault bytes ≡ Some (length bytes - length rest)
+pub halfway_fault : (bytes : List ℕ) (stand : Stand) (said : TranscriptSaid) (rest text below : List ℕ) → Halfway bytes stand said rest → Some (text, below) ≡ cut_at 10 rest
+    → next_stand stand text ≡ None → transcript_fault bytes ≡ Some (length bytes - length rest)
 halfway_fault bytes stand said rest text below half cut none =
     let at = length half.above in
     sym half.fault ∙ ap (fault_in stand at) (cut_split 10 rest (text, below) (sym cut))
     ∙ fault_here stand at text (slice_split (λ b. b == 10) below) (omega (arith, length-slice_split (λ b. b == 10) below)) none
     ∙ ap Some (place_is bytes half.above rest half.joined)
 
-pub halfway_missing : (bytes : List ℕ) (stand : Stand) (said : Said) (rest : List ℕ) → Halfway bytes stand said rest → cut_at 10 rest ≡ None
-    → (is_ended stand && length rest == 0) ≡ false → first_fault bytes ≡ Some (length bytes - length rest)
+pub halfway_missing : (bytes : List ℕ) (stand : Stand) (said : TranscriptSaid) (rest : List ℕ) → Halfway bytes stand said rest → cut_at 10 rest ≡ None
+    → (is_ended stand && length rest == 0) ≡ false → transcript_fault bytes ≡ Some (length bytes - length rest)
 halfway_missing bytes stand said rest half uncut missing =
     let at = length half.above in
     sym half.fault ∙ ap (fault_in stand at) (uncut_split 10 rest uncut) ∙ ap (λ (b : Bool). if b then None else Some at) missing
@@ -134,11 +134,11 @@ nothing_left : (rest : List ℕ) → (length rest == 0) ≡ true → rest ≡ []
 nothing_left [] e = refl
 nothing_left (x ∷ rest) e = absurd (omega (arith, eqb-true (length (x ∷ rest)) 0 e))
 
-pub halfway_end : (bytes : List ℕ) (stand : Stand) (said : Said) (rest : List ℕ) → Halfway bytes stand said rest → (is_ended stand && length rest == 0) ≡ true → Reads Ended said bytes
+pub halfway_end : (bytes : List ℕ) (stand : Stand) (said : TranscriptSaid) (rest : List ℕ) → Halfway bytes stand said rest → (is_ended stand && length rest == 0) ≡ true → ReadsLines Ended said bytes
 halfway_end bytes Top said rest half whole = absurd (let no : false ≡ true = whole in cc)
 halfway_end bytes Opened said rest half whole = absurd (let no : false ≡ true = whole in cc)
 halfway_end bytes (Among primary c) said rest half whole = absurd (let no : false ≡ true = whole in cc)
 halfway_end bytes (Downs c) said rest half whole = absurd (let no : false ≡ true = whole in cc)
 halfway_end bytes Ended said rest half whole =
     let all : half.above ≡ bytes = sym (append-nil half.above) ∙ ap (λ r. half.above ++ r) (sym (nothing_left rest whole)) ∙ half.joined in
-    subst (λ (a : List ℕ). Reads Ended said a) all half.reads
+    subst (λ (a : List ℕ). ReadsLines Ended said a) all half.reads

@@ -21,3 +21,4 @@ pub mod WordsSpelled
 pub mod RepliesSpelled
 pub mod LinesSpelled
 pub mod Lined
+pub mod LegalReadable

@@ -2,10 +2,10 @@
 use Rattle.std.proofs.Common.{◌≡◌, ◌∷◌, ◌++◌, refl, ap}
 use Rattle.mp_model.specs.declared.replies.Reply.{Reply}
 use Rattle.mp_model.specs.declared.replies.Reply.TheVariants.{Began, Got, Scanned, Wrote, Committed, CommittedNone, Unknown, RolledBack, Conflict, Held, Full, Skipped, Stopped}
-use Rattle.mp_report.specs.declared.lines.Line.{Line}
-use Rattle.mp_report.specs.declared.lines.Line.TheVariants.{Head, Primary, Answered, WentDown, End}
-use Rattle.mp_report.specs.declared.stands.Stand.{Stand}
-use Rattle.mp_report.specs.declared.stands.Stand.TheVariants.{Top, Opened, Among, Downs, Ended}
+use Rattle.mp_report.specs.declared.read.lines.Line.{Line}
+use Rattle.mp_report.specs.declared.read.lines.Line.TheVariants.{Head, Primary, Answered, WentDown, End}
+use Rattle.mp_report.specs.declared.read.stands.Stand.{Stand}
+use Rattle.mp_report.specs.declared.read.stands.Stand.TheVariants.{Top, Opened, Among, Downs, Ended}
 use Rattle.mp_report.specs.Answers.{statement_word, reply_words, wait_words}
 use Rattle.mp_report.specs.Bare.{bare_reply}
 use Rattle.mp_report.specs.Readable.{IsReply, is_commit}

@@ -3,7 +3,7 @@ use Rattle.std.proofs.Common.{◌≡◌, ◌∙◌, ℕ, ◌<◌, ◌==◌, inl,
 use Rattle.std.proofs.lemmas.Bool.{and_parts, leb-true}
 use Rattle.std.proofs.lemmas.Bool.Decides.{eqb_tells}
 use Rattle.std.specs.List.{AllByRecursion, list_all, slice_split}
-use Rattle.mp_report.specs.Lines.{spaced, text_of}
+use Rattle.mp_report.specs.Lines.{spaced, text_of_lines}
 use Rattle.mp_report.specs.ReadingLines.{lines_of}
 
 -- each byte is above the space, as a word's bytes are
@@ -49,12 +49,12 @@ words_again word (next ∷ words) are =
     split_at (λ b. b == 32) word 32 (next ++ spaced words) (not_in_word 32 word (lit< tt) parts.0) refl
     ∙ ap (λ ws. word ∷ ws) (words_again next words parts.1)
 
-pub lines_again : (lines : List (List (List ℕ))) → list_all is_line lines ≡ true → lines_of (text_of lines) ≡ lines ++ ([] ∷ []) ∷ []
+pub lines_again : (lines : List (List (List ℕ))) → list_all is_line lines ≡ true → lines_of (text_of_lines lines) ≡ lines ++ ([] ∷ []) ∷ []
 lines_again [] are = refl
 lines_again ([] ∷ lines) are = let no : false ≡ true = are in cc
 lines_again ((word ∷ words) ∷ lines) are =
     let parts = and_parts (is_line (word ∷ words)) (list_all is_line lines) are in
     let clean = and_parts (is_word word) (list_all is_word words) parts.0 in
-    let shape : text_of ((word ∷ words) ∷ lines) ≡ (word ++ spaced words) ++ 10 ∷ text_of lines = simp append_assoc in
-    let cut = split_at (λ b. b == 10) (word ++ spaced words) 10 (text_of lines) (both _ word (spaced words) (not_in_word 10 word (lit< tt) clean.0) (not_in_spaced words clean.1)) refl in
+    let shape : text_of_lines ((word ∷ words) ∷ lines) ≡ (word ++ spaced words) ++ 10 ∷ text_of_lines lines = simp append_assoc in
+    let cut = split_at (λ b. b == 10) (word ++ spaced words) 10 (text_of_lines lines) (both _ word (spaced words) (not_in_word 10 word (lit< tt) clean.0) (not_in_spaced words clean.1)) refl in
     ap lines_of shape ∙ ap (map (slice_split (λ b. b == 32))) cut ∙ rw (words_again word words parts.0, lines_again lines parts.1) refl

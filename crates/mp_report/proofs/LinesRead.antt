@@ -4,10 +4,10 @@ use Rattle.mp_model.specs.declared.replies.Answer.{Answer}
 use Rattle.mp_model.specs.declared.transcripts.Mode.{Mode}
 use Rattle.mp_model.specs.declared.transcripts.Mode.TheVariants.{Step, Run}
 use Rattle.mp_model.specs.declared.transcripts.Down.{Down}
-use Rattle.mp_report.specs.declared.lines.Line.TheVariants.{Head, Primary, Answered, WentDown, End}
+use Rattle.mp_report.specs.declared.read.lines.Line.TheVariants.{Head, Primary, Answered, WentDown, End}
 use Rattle.mp_report.specs.Answers.{answer_words}
 use Rattle.mp_report.specs.Bare.{bare_answer}
-use Rattle.mp_report.specs.Transcripts.{head_words, primary_words, down_words, end_words}
+use Rattle.mp_report.specs.Transcripts.{head_words, primary_words, down_words, last_words}
 use Rattle.mp_report.specs.Readable.{IsStamp, IsPrimary, IsDown, IsAnswer}
 use Rattle.mp_report.specs.ReadingLines.{read_line}
 use Rattle.mp_report.proofs.WordsRead.{number_read}
@@ -28,7 +28,7 @@ answer_line_read answer is = rw (answer_read answer is) refl
 pub down_read : (down : Down) → IsDown down → read_line (down_words down) ≡ Some (WentDown down)
 down_read down is = rw (primary_read down.primary is.primary, primary_read down.by is.by) refl
 
-pub end_read : (commits : ℕ) → commits < 2 ^ 64 → read_line (end_words commits) ≡ Some (End commits)
+pub end_read : (commits : ℕ) → commits < 2 ^ 64 → read_line (last_words commits) ≡ Some (End commits)
 end_read commits small = rw (number_read 0 (2 ^ 64 - 1) commits (omega arith) (omega (arith, small)) small) refl
 
 pub head_is_line : (mode : Mode) (base : ℕ) → IsStamp base → is_line (head_words mode base) ≡ true
@@ -41,5 +41,5 @@ primary_is_line primary is = rw (number_word primary (omega (arith, is.1))) refl
 pub down_is_line : (down : Down) → IsDown down → is_line (down_words down) ≡ true
 down_is_line down is = rw (number_word down.primary (omega (arith, is.primary.1)), number_word down.by (omega (arith, is.by.1))) refl
 
-pub end_is_line : (commits : ℕ) → commits < 2 ^ 64 → is_line (end_words commits) ≡ true
+pub end_is_line : (commits : ℕ) → commits < 2 ^ 64 → is_line (last_words commits) ≡ true
 end_is_line commits small = rw (number_word commits small) refl

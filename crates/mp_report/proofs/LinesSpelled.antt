@@ -2,7 +2,7 @@
 use Rattle.std.proofs.Common.{◌≡◌, ◌∙◌, ℕ, ◌-◌, ◌^◌, inl, inr, List, [], ◌∷◌, Some, None, codes, decimal, sym, ap, subst, arith}
 use Rattle.std.specs.Str.{bytes_eq}
 use Rattle.mp_model.specs.declared.transcripts.Mode.{Mode}
-use Rattle.mp_report.specs.declared.lines.Line.{Line}
+use Rattle.mp_report.specs.declared.read.lines.Line.{Line}
 use Rattle.mp_report.specs.Transcripts.{mode_word}
 use Rattle.mp_report.specs.ReadingLines.{read_mode, read_head, read_primary_line, read_down, read_end, read_line, line_words, IsLine}
 use Rattle.mp_report.specs.Reading.{read_number, read_stamp, read_primary, read_answer}

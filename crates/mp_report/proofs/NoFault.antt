@@ -1,7 +1,7 @@
 -- The text of a readable transcript has no fault.
 use Rattle.std.proofs.Common.{◌≡◌, ◌∙◌, ℕ, ◌+◌, List, [], ◌∷◌, ◌++◌, length, map, Option, Some, None, refl, sym, ap, length-append, arith}
-use Rattle.mp_report.specs.declared.stands.Stand.{Stand}
-use Rattle.mp_report.specs.declared.stands.Stand.TheVariants.{Ended}
+use Rattle.mp_report.specs.declared.read.stands.Stand.{Stand}
+use Rattle.mp_report.specs.declared.read.stands.Stand.TheVariants.{Ended}
 use Rattle.mp_report.specs.Lines.{line}
 use Rattle.mp_report.specs.Reading.{◌>>=◌}
 use Rattle.mp_report.specs.ReadingLines.{words_of, read_line}

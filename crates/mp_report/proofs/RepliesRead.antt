@@ -11,7 +11,8 @@ use Rattle.mp_model.specs.declared.replies.Reply.TheVariants.{Began, Got, Scanne
 use Rattle.mp_model.specs.declared.replies.Answer.{Answer}
 use Rattle.mp_report.specs.Answers.{name_word, row_word, reply_words, wait_words, answer_words}
 use Rattle.mp_report.specs.Bare.{bare_reply, bare_answer}
-use Rattle.mp_report.specs.Readable.{IsStamp, IsPrimary, IsName, IsRow, IsReply, IsAnswer}
+use Rattle.mp_report.specs.Readable.{IsStamp, IsPrimary, IsName, IsReply, IsAnswer}
+use Rattle.mp_script.specs.SpelledLines.{IsRowInRange}
 use Rattle.mp_report.specs.Reading.{read_stamp, read_primary, read_rows, read_names, read_reply, read_waits, read_answer}
 use Rattle.mp_report.proofs.WordsRead.{number_read, number_differs, statement_read, row_read}
 
@@ -21,7 +22,7 @@ stamp_read stamp is = number_read 0 (2 ^ 38 - 1) stamp (omega arith) (omega (ari
 pub primary_read : (primary : ℕ) → IsPrimary primary → read_primary (decimal primary) ≡ Some primary
 primary_read primary is = number_read 1 8 primary is.0 is.1 (omega (arith, is.1))
 
-rows_read : (rows : List KeyValue) (words : List (List ℕ)) → AllByRecursion IsRow rows → read_rows (length rows) (map row_word rows ++ words) ≡ Some (rows, words)
+rows_read : (rows : List KeyValue) (words : List (List ℕ)) → AllByRecursion IsRowInRange rows → read_rows (length rows) (map row_word rows ++ words) ≡ Some (rows, words)
 rows_read [] words are = refl
 rows_read (row ∷ rows) words are = rw (row_read row are.0, rows_read rows words are.1) refl
 

@@ -12,8 +12,8 @@ use Rattle.mp_model.specs.declared.transcripts.Down.{Down}
 use Rattle.mp_model.specs.declared.transcripts.Transcript.{Transcript}
 use Rattle.mp_report.specs.Answers.{answer_words}
 use Rattle.mp_report.specs.Bare.{listed, bare_part, bare_transcript}
-use Rattle.mp_report.specs.Transcripts.{head_words, part_lines, down_words, end_words, transcript_lines, transcript_text}
-use Rattle.mp_report.specs.Readable.{IsStamp, IsPrimary, IsDown, IsAnswer, InOrder, HasParts, IsReadable}
+use Rattle.mp_report.specs.Transcripts.{head_words, part_lines, down_words, last_words, transcript_lines, transcript_text}
+use Rattle.mp_report.specs.Readable.{IsStamp, IsPrimary, IsDown, IsAnswer, PartsInOrder, HasParts, IsReadable}
 use Rattle.mp_report.specs.ReadingLines.{lines_of, read_line}
 use Rattle.mp_report.proofs.LinesCut.{is_line, lines_again}
 use Rattle.mp_report.proofs.WordsAreWords.{answer_is_line}
@@ -21,35 +21,35 @@ use Rattle.mp_report.proofs.LinesRead.{head_read, head_is_line, primary_is_line,
 use Rattle.mp_report.proofs.Gathered.{transcript_of, downs_gathered, answers_gathered, parts_gathered}
 
 -- parts of primaries from one on that end at 8 are of primaries
-primaries_in_order : (next : ℕ) (parts : List Part) → 1 ≤ next → next + length parts ≤ 9 → InOrder next parts → AllByRecursion (λ part. IsPrimary part.primary) parts
+primaries_in_order : (next : ℕ) (parts : List Part) → 1 ≤ next → next + length parts ≤ 9 → PartsInOrder next parts → AllByRecursion (λ part. IsPrimary part.primary) parts
 primaries_in_order next [] some most order = tt
 primaries_in_order next (part ∷ parts) some most order =
     ((omega (arith, order.0), omega (arith, order.0)), primaries_in_order (next + 1) parts (omega arith) (omega (arith, most)) order.1)
 
 read_again : (mode : Mode) (base : ℕ) (parts : List Part) (downs : List Down) (commits : ℕ)
     → IsStamp base → HasParts mode parts → AllByRecursion (λ part. AllByRecursion IsAnswer part.answers.items) parts → AllByRecursion IsDown downs → commits < 2 ^ 64
-    → transcript_of (map read_line (head_words mode base ∷ (flat_map (part_lines mode) parts ++ (map down_words downs ++ end_words commits ∷ []))) ++ None ∷ [])
+    → transcript_of (map read_line (head_words mode base ∷ (flat_map (part_lines mode) parts ++ (map down_words downs ++ last_words commits ∷ []))) ++ None ∷ [])
     ≡ record { mode = mode; base = base; parts = listed (map bare_part parts); downs = listed downs; commits = commits }
 read_again Step base [] downs commits stamp has answers are small = absurd (omega (arith, has.0))
 read_again Step base (part ∷ other ∷ parts) downs commits stamp has answers are small = absurd (omega (arith, has.0))
 read_again Step base (part ∷ []) downs commits stamp has answers are small =
-    let last = map read_line (map down_words downs ++ end_words commits ∷ []) in
+    let last = map read_line (map down_words downs ++ last_words commits ∷ []) in
     let below_is = answers_gathered part.answers.items (last ++ None ∷ []) [] downs commits answers.0 (downs_gathered downs commits are small) in
     rw (
       head_read Step base stamp,
       append-nil (map answer_words part.answers.items),
-      map-append read_line (map answer_words part.answers.items) (map down_words downs ++ end_words commits ∷ []),
+      map-append read_line (map answer_words part.answers.items) (map down_words downs ++ last_words commits ∷ []),
       append_assoc (map read_line (map answer_words part.answers.items)) last (None ∷ []),
       below_is,
       has.1.0,
     ) refl
 read_again Run base parts downs commits stamp has answers are small =
     let primaries = primaries_in_order 1 parts (omega arith) (omega (arith, has.1)) has.2 in
-    let last = map read_line (map down_words downs ++ end_words commits ∷ []) in
+    let last = map read_line (map down_words downs ++ last_words commits ∷ []) in
     let below_is = parts_gathered parts (last ++ None ∷ []) downs commits primaries answers (downs_gathered downs commits are small) in
     rw (
       head_read Run base stamp,
-      map-append read_line (flat_map (part_lines Run) parts) (map down_words downs ++ end_words commits ∷ []),
+      map-append read_line (flat_map (part_lines Run) parts) (map down_words downs ++ last_words commits ∷ []),
       append_assoc (map read_line (flat_map (part_lines Run) parts)) last (None ∷ []),
       below_is,
     ) refl
@@ -86,7 +86,7 @@ pub lines_are_lines : (t : Transcript) → IsReadable t → list_all is_line (tr
 lines_are_lines t is =
     let parts = flat_map (part_lines t.mode) t.parts.items in
     let downs = map down_words t.downs.items in
-    let end = end_words t.commits ∷ [] in
+    let end = last_words t.commits ∷ [] in
     and_from _ _ (head_is_line t.mode t.base is.base)
     (both_lines parts (downs ++ end) (parts_are_lines t.mode t.parts.items is.parts is.answers)
     (both_lines downs end (downs_are_lines t.downs.items is.downs) (and_from _ _ (end_is_line t.commits is.count) refl)))

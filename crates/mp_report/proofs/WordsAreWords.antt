@@ -14,7 +14,8 @@ use Rattle.mp_model.specs.declared.replies.Reply.{Reply}
 use Rattle.mp_model.specs.declared.replies.Reply.TheVariants.{Began, Got, Scanned, Wrote, Committed, CommittedNone, Unknown, RolledBack, Conflict, Held, Full, Skipped, Stopped}
 use Rattle.mp_model.specs.declared.replies.Answer.{Answer}
 use Rattle.mp_report.specs.Answers.{statement_word, name_word, row_word, reply_words, wait_words, answer_words}
-use Rattle.mp_report.specs.Readable.{IsStamp, IsStatement, IsName, IsRow, IsReply, IsAnswer}
+use Rattle.mp_report.specs.Readable.{IsStamp, IsStatement, IsName, IsReply, IsAnswer}
+use Rattle.mp_script.specs.SpelledLines.{IsRowInRange}
 use Rattle.mp_report.proofs.LinesCut.{is_word, is_line}
 
 digits_word : (ds : List ℕ) → AllDigits 10 ds → is_word ds ≡ true
@@ -40,14 +41,14 @@ statement_is_word : (session index : ℕ) → IsStatement session index → is_w
 statement_is_word session index is =
     joined_word (decimal session) (codes "." ++ decimal index) (number_word session (omega (arith, is.most_sessions))) (number_word index (omega (arith, is.most_statements)))
 
-row_is_word : (row : KeyValue) → IsRow row → is_word (row_word row) ≡ true
+row_is_word : (row : KeyValue) → IsRowInRange row → is_word (row_word row) ≡ true
 row_is_word row is = joined_word (decimal row.key) (codes "=" ++ row.value) (number_word row.key (omega (arith, is.key))) (value_word row.value is.value)
 
 names_are_words : (names : List TrxName) → AllByRecursion IsName names → list_all is_word (map name_word names) ≡ true
 names_are_words [] are = refl
 names_are_words (name ∷ names) are = and_from (is_word (name_word name)) (list_all is_word (map name_word names)) (statement_is_word name.session name.first are.0) (names_are_words names are.1)
 
-rows_are_words : (rows : List KeyValue) → AllByRecursion IsRow rows → list_all is_word (map row_word rows) ≡ true
+rows_are_words : (rows : List KeyValue) → AllByRecursion IsRowInRange rows → list_all is_word (map row_word rows) ≡ true
 rows_are_words [] are = refl
 rows_are_words (row ∷ rows) are = and_from (is_word (row_word row)) (list_all is_word (map row_word rows)) (row_is_word row are.0) (rows_are_words rows are.1)
 

@@ -9,7 +9,8 @@ use Rattle.std.specs.Str.{bytes_eq}
 use Rattle.std.specs.Str.Parse.{AllDigits}
 use Rattle.mp_model.specs.declared.key_value.KeyValue.{KeyValue}
 use Rattle.mp_report.specs.Answers.{statement_word, row_word}
-use Rattle.mp_report.specs.Readable.{IsStatement, IsRow}
+use Rattle.mp_report.specs.Readable.{IsStatement}
+use Rattle.mp_script.specs.SpelledLines.{IsRowInRange}
 use Rattle.mp_report.specs.Reading.{read_number, read_statement, read_row, cut_at}
 
 pub same_bytes : (xs : List ℕ) → bytes_eq xs xs ≡ true
@@ -48,7 +49,7 @@ statement_read session index is =
       number_read 1 10000 index is.some_index is.most_statements (omega (arith, is.most_statements)),
     ) refl
 
-pub row_read : (row : KeyValue) → IsRow row → read_row (row_word row) ≡ Some row
+pub row_read : (row : KeyValue) → IsRowInRange row → read_row (row_word row) ≡ Some row
 row_read row is =
     rw (
       cut_decimal 61 row.key row.value (omega (arith, is.key)) (inr (lit< tt)),

@@ -9,7 +9,8 @@ use Rattle.mp_model.specs.Values.{is_value}
 use Rattle.mp_model.specs.declared.ids.TrxName.{TrxName}
 use Rattle.mp_model.specs.declared.key_value.KeyValue.{KeyValue}
 use Rattle.mp_report.specs.Answers.{name_word, row_word}
-use Rattle.mp_report.specs.Readable.{IsName, IsRow}
+use Rattle.mp_report.specs.Readable.{IsName}
+use Rattle.mp_script.specs.SpelledLines.{IsRowInRange}
 use Rattle.mp_report.specs.Reading.{◌>>=◌, read_number, cut_at, read_statement, read_row, read_rows, read_names}
 
 pub same_from_bytes : (xs ys : List ℕ) → bytes_eq xs ys ≡ true → xs ≡ ys
@@ -87,13 +88,13 @@ statement_spelled (x ∷ word) name e =
       record { some_session = s.least; most_sessions = s.most; some_index = i.least; most_statements = i.most },
     )
 
-pub row_spelled : (word : List ℕ) (row : KeyValue) → read_row word ≡ Some row → (row_word row ≡ word) × IsRow row
+pub row_spelled : (word : List ℕ) (row : KeyValue) → read_row word ≡ Some row → (row_word row ≡ word) × IsRowInRange row
 row_spelled word row e =
     let cut = then_some (cut_at 61 word) _ row e in
     let key = then_some (read_number 0 (2 ^ 32 - 1) cut.0.0) _ row cut.2 in
     let value = if_some (is_value cut.0.1) _ row key.2 in
     let k = number_spelled 0 (2 ^ 32 - 1) cut.0.0 key.0 key.1 in
-    subst (λ (r : KeyValue). (row_word r ≡ word) × IsRow r) value.1
+    subst (λ (r : KeyValue). (row_word r ≡ word) × IsRowInRange r) value.1
     (ap (λ p. p ++ 61 ∷ cut.0.1) k.spelled ∙ sym (cut_spelled 61 word cut.0 cut.1), record { key = omega (arith, k.most); value = value.0 })
 
 pub names_spelled : (words : List (List ℕ)) (names : List TrxName) → read_names words ≡ Some names → (map name_word names ≡ words) × AllByRecursion IsName names
@@ -109,7 +110,7 @@ names_spelled (word ∷ words) names e =
 pub record AreRows (count : ℕ) (words : List (List ℕ)) (found : List KeyValue × List (List ℕ)) : Type 0 where
   pub spelled : words ≡ map row_word found.0 ++ found.1
   pub count_is : length found.0 ≡ count
-  pub are : AllByRecursion IsRow found.0
+  pub are : AllByRecursion IsRowInRange found.0
 
 pub rows_spelled : (count : ℕ) (words : List (List ℕ)) (found : List KeyValue × List (List ℕ)) → read_rows count words ≡ Some found → AreRows count words found
 rows_spelled zero words found e = subst (AreRows zero words) (some_inj _ _ e) (record { spelled = refl; count_is = refl; are = tt })

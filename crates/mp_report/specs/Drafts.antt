@@ -7,17 +7,17 @@ use Rattle.mp_model.specs.declared.transcripts.Mode.TheVariants.{Step, Run}
 use Rattle.mp_model.specs.declared.transcripts.Part.{Part}
 use Rattle.mp_model.specs.declared.transcripts.Down.{Down}
 use Rattle.mp_model.specs.declared.transcripts.Transcript.{Transcript}
-use Rattle.mp_report.specs.declared.lines.Line.{Line}
-use Rattle.mp_report.specs.declared.lines.Line.TheVariants.{Head, Primary, Answered, WentDown, End}
-use Rattle.mp_report.specs.declared.stands.Stand.{Stand}
-use Rattle.mp_report.specs.declared.stands.Stand.TheVariants.{Top, Opened, Among, Downs, Ended}
-use Rattle.mp_report.specs.Lines.{text_of}
+use Rattle.mp_report.specs.declared.read.lines.Line.{Line}
+use Rattle.mp_report.specs.declared.read.lines.Line.TheVariants.{Head, Primary, Answered, WentDown, End}
+use Rattle.mp_report.specs.declared.read.stands.Stand.{Stand}
+use Rattle.mp_report.specs.declared.read.stands.Stand.TheVariants.{Top, Opened, Among, Downs, Ended}
+use Rattle.mp_report.specs.Lines.{text_of_lines}
 use Rattle.mp_report.specs.Answers.{answer_words}
-use Rattle.mp_report.specs.Transcripts.{head_words, primary_lines, part_lines, down_words, end_words}
-use Rattle.mp_report.specs.Readable.{IsStamp, IsAnswer, IsDown, InOrder, is_commit, commit_count}
+use Rattle.mp_report.specs.Transcripts.{head_words, primary_lines, part_lines, down_words, last_words}
+use Rattle.mp_report.specs.Readable.{IsStamp, IsAnswer, IsDown, PartsInOrder, is_commit, commit_count}
 
 -- what lines say: the parts that are finished, and the primary and the answers of the part that isn't
-pub record Said : Type 0 where
+pub record TranscriptSaid : Type 0 where
   pub mode : Mode
   pub base : ℕ
   pub parts : List Part
@@ -26,8 +26,8 @@ pub record Said : Type 0 where
   pub downs : List Down
   pub commits : ℕ
 
-abbrev pub said_by : Transcript → Part → Said
-said_by t part = record {
+abbrev pub draft_said : Transcript → Part → TranscriptSaid
+draft_said t part = record {
   mode = t.mode;
   base = t.base;
   parts = t.parts.items;
@@ -38,11 +38,11 @@ said_by t part = record {
 }
 
 -- before the first line
-abbrev pub nothing : Said
+abbrev pub nothing : TranscriptSaid
 nothing = record { mode = Step; base = 0; parts = []; primary = 0; answers = []; downs = []; commits = 0 }
 
 -- with one line more: that of a primary finishes the part above, of which the first has none
-abbrev pub added : Line → Part → Said → Said
+abbrev pub added : Line → Part → TranscriptSaid → TranscriptSaid
 added (Head mode base) part s = record { mode = mode; base = base; parts = s.parts; primary = s.primary; answers = s.answers; downs = s.downs; commits = s.commits }
 added (Primary primary) part s = record { mode = s.mode; base = s.base; parts = if nat_lt 1 primary then s.parts ++ part ∷ [] else s.parts; primary = primary; answers = []; downs = s.downs; commits = s.commits }
 added (Answered answer) part s = record { mode = s.mode; base = s.base; parts = s.parts; primary = s.primary; answers = s.answers ++ answer ∷ []; downs = s.downs; commits = s.commits }
@@ -50,7 +50,7 @@ added (WentDown down) part s = record { mode = s.mode; base = s.base; parts = s.
 added (End commits) part s = record { mode = s.mode; base = s.base; parts = s.parts; primary = s.primary; answers = s.answers; downs = s.downs; commits = commits }
 
 -- the lines that say it, without the last line
-abbrev pub lines_said : Said → List (List (List ℕ))
+abbrev pub lines_said : TranscriptSaid → List (List (List ℕ))
 lines_said s =
     head_words s.mode s.base
     ∷ (flat_map (part_lines s.mode) s.parts ++ (primary_lines s.mode s.primary ++ (map answer_words s.answers ++ map down_words s.downs)))
@@ -58,10 +58,10 @@ lines_said s =
 -- the parts above that of a primary
 abbrev pub PartsAbove : Mode → ℕ → List Part → Type 0
 PartsAbove Step primary parts = (primary ≡ 0) × (parts ≡ [])
-PartsAbove Run primary parts = (primary ≡ length parts + 1) × (primary ≤ 8) × InOrder 1 parts
+PartsAbove Run primary parts = (primary ≡ length parts + 1) × (primary ≤ 8) × PartsInOrder 1 parts
 
 -- it is what a readable transcript says, with so many commits
-pub record IsSaid (s : Said) (commits : ℕ) : Type 0 where
+pub record IsSaid (s : TranscriptSaid) (commits : ℕ) : Type 0 where
   pub base : IsStamp s.base
   pub above : PartsAbove s.mode s.primary s.parts
   pub finished : AllByRecursion (λ part. AllByRecursion IsAnswer part.answers.items) s.parts
@@ -70,9 +70,9 @@ pub record IsSaid (s : Said) (commits : ℕ) : Type 0 where
   pub counted : commits ≡ commit_count s.parts + count_by (λ answer. is_commit answer.reply) s.answers
 
 -- the lines above a place are this text, and they say this
-abbrev pub Reads : Stand → Said → List ℕ → Type 0
-Reads Top s text = (s ≡ nothing) × (text ≡ [])
-Reads Opened s text = (base : ℕ) × (s ≡ record { mode = Run; base = base; parts = []; primary = 0; answers = []; downs = []; commits = 0 }) × IsStamp base × (text ≡ text_of (head_words Run base ∷ []))
-Reads (Among primary commits) s text = IsSaid s commits × (s.primary ≡ primary) × (s.downs ≡ []) × (text ≡ text_of (lines_said s))
-Reads (Downs commits) s text = IsSaid s commits × (text ≡ text_of (lines_said s))
-Reads Ended s text = IsSaid s s.commits × (s.commits < 2 ^ 64) × (text ≡ text_of (lines_said s ++ end_words s.commits ∷ []))
+abbrev pub ReadsLines : Stand → TranscriptSaid → List ℕ → Type 0
+ReadsLines Top s text = (s ≡ nothing) × (text ≡ [])
+ReadsLines Opened s text = (base : ℕ) × (s ≡ record { mode = Run; base = base; parts = []; primary = 0; answers = []; downs = []; commits = 0 }) × IsStamp base × (text ≡ text_of_lines (head_words Run base ∷ []))
+ReadsLines (Among primary commits) s text = IsSaid s commits × (s.primary ≡ primary) × (s.downs ≡ []) × (text ≡ text_of_lines (lines_said s))
+ReadsLines (Downs commits) s text = IsSaid s commits × (text ≡ text_of_lines (lines_said s))
+ReadsLines Ended s text = IsSaid s s.commits × (s.commits < 2 ^ 64) × (text ≡ text_of_lines (lines_said s ++ last_words s.commits ∷ []))

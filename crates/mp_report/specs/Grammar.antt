@@ -3,10 +3,10 @@ use Rattle.std.specs.Prelude.{ℕ, ◌+◌, ◌==◌, ◌&&◌, nat_le, Bool, tr
 use Rattle.std.specs.List.{slice_split}
 use Rattle.mp_model.specs.declared.replies.Answer.{Answer}
 use Rattle.mp_model.specs.declared.transcripts.Mode.TheVariants.{Step, Run}
-use Rattle.mp_report.specs.declared.lines.Line.{Line}
-use Rattle.mp_report.specs.declared.lines.Line.TheVariants.{Head, Primary, Answered, WentDown, End}
-use Rattle.mp_report.specs.declared.stands.Stand.{Stand}
-use Rattle.mp_report.specs.declared.stands.Stand.TheVariants.{Top, Opened, Among, Downs, Ended}
+use Rattle.mp_report.specs.declared.read.lines.Line.{Line}
+use Rattle.mp_report.specs.declared.read.lines.Line.TheVariants.{Head, Primary, Answered, WentDown, End}
+use Rattle.mp_report.specs.declared.read.stands.Stand.{Stand}
+use Rattle.mp_report.specs.declared.read.stands.Stand.TheVariants.{Top, Opened, Among, Downs, Ended}
 use Rattle.mp_report.specs.Readable.{is_commit}
 use Rattle.mp_report.specs.Reading.{◌>>=◌}
 use Rattle.mp_report.specs.ReadingLines.{words_of, read_line}
@@ -33,13 +33,13 @@ downs commits (WentDown down) = Some (Downs commits)
 downs commits (End count) = if count == commits then Some Ended else None
 
 -- where the next line stands behind the first line
-abbrev pub top : Line → Option Stand
-top (Head Step base) = Some (Among 0 0)
-top (Head Run base) = Some Opened
-top (Primary next) = None
-top (Answered answer) = None
-top (WentDown down) = None
-top (End count) = None
+abbrev pub behind_head : Line → Option Stand
+behind_head (Head Step base) = Some (Among 0 0)
+behind_head (Head Run base) = Some Opened
+behind_head (Primary next) = None
+behind_head (Answered answer) = None
+behind_head (WentDown down) = None
+behind_head (End count) = None
 
 -- where the next line stands behind the second line in mode Run
 abbrev pub opened : Line → Option Stand
@@ -51,7 +51,7 @@ opened (End count) = None
 
 -- where the next line stands behind one that stands here, if that is allowed here
 abbrev pub allowed : Stand → Line → Option Stand
-allowed Top line = top line
+allowed Top line = behind_head line
 allowed Opened line = opened line
 allowed (Among primary commits) line = among primary commits line
 allowed (Downs commits) line = downs commits line
@@ -90,5 +90,5 @@ fault_in stand at (text ∷ []) = if is_ended stand && length text == 0 then Non
 fault_in stand at (text ∷ other ∷ texts) = fault_at at (next_stand stand text) (λ next. fault_in next (at + (length text + 1)) (other ∷ texts))
 
 -- the offset of the first line that isn't allowed in a transcript, or the length where the last line is missing
-abbrev pub first_fault : List ℕ → Option ℕ
-first_fault bytes = fault_in Top 0 (slice_split (λ b. b == 10) bytes)
+abbrev pub transcript_fault : List ℕ → Option ℕ
+transcript_fault bytes = fault_in Top 0 (slice_split (λ b. b == 10) bytes)

@@ -7,7 +7,7 @@ use Rattle.mp_cells.specs.declared.kinds.Kind.TheVariants.{Blank, Meta, Leaf, In
 use Rattle.mp_cells.specs.declared.rows.Link.{Link}
 use Rattle.mp_cells.specs.declared.rows.Row.{Row}
 use Rattle.mp_cells.specs.PageView.{PageView, count_of}
-use Rattle.mp_report.specs.Lines.{spaced, text_of}
+use Rattle.mp_report.specs.Lines.{spaced, text_of_lines}
 
 -- a writer, as 1.0.7: its node, slot and version
 abbrev pub id_word : TrxId → List ℕ
@@ -75,7 +75,7 @@ page_lines number page = page_words number page ∷ cell_lines page.kind page
 
 -- the text of a page
 abbrev pub page_text : ℕ → PageView → List ℕ
-page_text number page = text_of (page_lines number page)
+page_text number page = text_of_lines (page_lines number page)
 
 -- the words of a line without its end
 abbrev pub front : List (List ℕ) → List ℕ

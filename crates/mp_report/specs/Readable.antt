@@ -3,7 +3,6 @@ use Rattle.std.specs.Prelude.{◌≡◌, ℕ, ◌+◌, ◌^◌, ◌<◌, ◌≤�
 use Rattle.std.specs.List.{AllByRecursion, flat_map}
 use Rattle.mp_model.specs.Values.{is_value}
 use Rattle.mp_model.specs.declared.ids.TrxName.{TrxName}
-use Rattle.mp_model.specs.declared.key_value.KeyValue.{KeyValue}
 use Rattle.mp_model.specs.declared.replies.Reply.{Reply}
 use Rattle.mp_model.specs.declared.replies.Reply.TheVariants.{Began, Got, Scanned, Wrote, Committed, CommittedNone, Unknown, RolledBack, Conflict, Held, Full, Skipped, Stopped}
 use Rattle.mp_model.specs.declared.replies.Answer.{Answer}
@@ -12,6 +11,7 @@ use Rattle.mp_model.specs.declared.transcripts.Mode.TheVariants.{Step, Run}
 use Rattle.mp_model.specs.declared.transcripts.Part.{Part}
 use Rattle.mp_model.specs.declared.transcripts.Down.{Down}
 use Rattle.mp_model.specs.declared.transcripts.Transcript.{Transcript}
+use Rattle.mp_script.specs.SpelledLines.{IsRowInRange}
 
 -- a timestamp
 abbrev pub IsStamp : ℕ → Type 0
@@ -32,11 +32,6 @@ pub record IsStatement (session index : ℕ) : Type 0 where
 abbrev pub IsName : TrxName → Type 0
 IsName name = IsStatement name.session name.first
 
--- a row
-pub record IsRow (row : KeyValue) : Type 0 where
-  pub key : row.key < 2 ^ 32
-  pub value : is_value row.value ≡ true
-
 -- a reply's numbers, values and names
 abbrev pub IsReply : Reply → Type 0
 IsReply (Began view) = IsStamp view
@@ -45,7 +40,7 @@ IsReply (Got value) = found value
     found : Option (List ℕ) → Type 0
     found (Some value) = is_value value ≡ true
     found None = ⊤
-IsReply (Scanned rows) = (length rows.items < 2 ^ 64) × AllByRecursion IsRow rows.items
+IsReply (Scanned rows) = (length rows.items < 2 ^ 64) × AllByRecursion IsRowInRange rows.items
 IsReply (Wrote verb) = ⊤
 IsReply (Committed cts) = IsStamp cts
 IsReply CommittedNone = ⊤
@@ -69,14 +64,14 @@ pub record IsDown (down : Down) : Type 0 where
   pub by : IsPrimary down.by
 
 -- the parts are of the primaries from this number on, in order
-abbrev pub InOrder : ℕ → List Part → Type 0
-InOrder next [] = ⊤
-InOrder next (part ∷ parts) = (part.primary ≡ next) × InOrder (next + 1) parts
+abbrev pub PartsInOrder : ℕ → List Part → Type 0
+PartsInOrder next [] = ⊤
+PartsInOrder next (part ∷ parts) = (part.primary ≡ next) × PartsInOrder (next + 1) parts
 
 -- in mode Step there is one part, of primary 0; in mode Run one of each primary from 1 on, 1 to 8 of them
 abbrev pub HasParts : Mode → List Part → Type 0
 HasParts Step parts = (length parts ≡ 1) × AllByRecursion (λ part. part.primary ≡ 0) parts
-HasParts Run parts = (1 ≤ length parts) × (length parts ≤ 8) × InOrder 1 parts
+HasParts Run parts = (1 ≤ length parts) × (length parts ≤ 8) × PartsInOrder 1 parts
 
 -- the answer is a commit, maybe of unknown end
 abbrev pub is_commit : Reply → Bool

@@ -4,17 +4,14 @@ use Rattle.std.specs.List.{slice_split}
 use Rattle.std.specs.Str.{bytes_eq}
 use Rattle.mp_model.specs.declared.transcripts.Mode.{Mode}
 use Rattle.mp_model.specs.declared.transcripts.Mode.TheVariants.{Step, Run}
-use Rattle.mp_report.specs.declared.lines.Line.{Line}
-use Rattle.mp_report.specs.declared.lines.Line.TheVariants.{Head, Primary, Answered, WentDown, End}
+use Rattle.mp_report.specs.declared.read.lines.Line.{Line}
+use Rattle.mp_report.specs.declared.read.lines.Line.TheVariants.{Head, Primary, Answered, WentDown, End}
 use Rattle.mp_report.specs.Answers.{answer_words}
 use Rattle.mp_report.specs.Bare.{bare_answer}
-use Rattle.mp_report.specs.Transcripts.{head_words, primary_words, down_words, end_words}
+use Rattle.mp_report.specs.Transcripts.{head_words, primary_words, down_words, last_words}
 use Rattle.mp_report.specs.Readable.{IsStamp, IsPrimary, IsAnswer, IsDown}
+pub use Rattle.mp_script.specs.Words.{words_of}
 use Rattle.mp_report.specs.Reading.{◌>>=◌, read_number, read_stamp, read_primary, read_answer}
-
--- the words of a line
-abbrev pub words_of : List ℕ → List (List ℕ)
-words_of text = slice_split (λ b. b == 32) text
 
 -- the lines of a text, each as its words; the last one is what stands behind the last byte 10
 abbrev pub lines_of : List ℕ → List (List (List ℕ))
@@ -61,7 +58,7 @@ line_words (Head mode base) = head_words mode base
 line_words (Primary primary) = primary_words primary
 line_words (Answered answer) = answer_words answer
 line_words (WentDown down) = down_words down
-line_words (End commits) = end_words commits
+line_words (End commits) = last_words commits
 
 -- the line says what a line of a readable transcript may say
 abbrev pub IsLine : Line → Type 0

@@ -4,7 +4,7 @@ use Rattle.mp_cells.specs.declared.changes.Change.{Change}
 use Rattle.mp_cells.specs.declared.changes.Change.TheVariants.{MakeLeaf, MakeInner, MakeUndo, PutRow, RestoreRow, Cut, PutChild, PutUndo, TakePage}
 use Rattle.mp_cells.specs.declared.records.Record.{Record}
 use Rattle.mp_cells.specs.declared.records.Record.TheVariants.{Page, Commit}
-use Rattle.mp_report.specs.Lines.{text_of}
+use Rattle.mp_report.specs.Lines.{text_of_lines}
 use Rattle.mp_report.specs.Pages.{id_word, row_words, child_words}
 
 -- the first word of a change's record
@@ -58,4 +58,4 @@ record_lines (Commit id cts) = (codes "commit" ∷ id_word id ∷ codes "at" ∷
 
 -- the text of a record
 abbrev pub record_text : Record → List ℕ
-record_text item = text_of (record_lines item)
+record_text item = text_of_lines (record_lines item)

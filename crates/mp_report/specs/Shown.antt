@@ -9,5 +9,5 @@ abbrev pub texts : List (Bor (List ℕ)) → List (List ℕ)
 texts words = map (λ word. word.now) words
 
 -- a reply, whatever free places its list has, and the words behind it
-abbrev pub shown : Reply × Bor (List (Bor (List ℕ))) → Reply × List (List ℕ)
-shown found = (bare_reply found.0, texts found.1.now)
+abbrev pub bare_found : Reply × Bor (List (Bor (List ℕ))) → Reply × List (List ℕ)
+bare_found found = (bare_reply found.0, texts found.1.now)

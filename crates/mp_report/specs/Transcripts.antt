@@ -6,7 +6,7 @@ use Rattle.mp_model.specs.declared.transcripts.Mode.TheVariants.{Step, Run}
 use Rattle.mp_model.specs.declared.transcripts.Part.{Part}
 use Rattle.mp_model.specs.declared.transcripts.Down.{Down}
 use Rattle.mp_model.specs.declared.transcripts.Transcript.{Transcript}
-use Rattle.mp_report.specs.Lines.{text_of}
+use Rattle.mp_report.specs.Lines.{text_of_lines}
 use Rattle.mp_report.specs.Answers.{answer_words}
 
 abbrev pub mode_word : Mode → List ℕ
@@ -35,15 +35,15 @@ abbrev pub down_words : Down → List (List ℕ)
 down_words down = codes "down" ∷ decimal down.primary ∷ codes "by" ∷ decimal down.by ∷ []
 
 -- the last line
-abbrev pub end_words : ℕ → List (List ℕ)
-end_words commits = codes "end" ∷ codes "commits" ∷ decimal commits ∷ []
+abbrev pub last_words : ℕ → List (List ℕ)
+last_words commits = codes "end" ∷ codes "commits" ∷ decimal commits ∷ []
 
 -- the first line, the parts, the primaries that went down, the last line
 abbrev pub transcript_lines : Transcript → List (List (List ℕ))
 transcript_lines transcript =
     head_words transcript.mode transcript.base
-    ∷ (flat_map (part_lines transcript.mode) transcript.parts.items ++ (map down_words transcript.downs.items ++ end_words transcript.commits ∷ []))
+    ∷ (flat_map (part_lines transcript.mode) transcript.parts.items ++ (map down_words transcript.downs.items ++ last_words transcript.commits ∷ []))
 
 -- the text of a transcript
 unfoldable pub transcript_text : Transcript → List ℕ
-transcript_text transcript = text_of (transcript_lines transcript)
+transcript_text transcript = text_of_lines (transcript_lines transcript)

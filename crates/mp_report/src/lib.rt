@@ -2,23 +2,12 @@
 //! it is that of a transcript.
 #![tactic(auto)]
 
-mod answers;
-mod drafts;
 mod laws;
-mod lines;
-mod pages;
-mod reader;
-mod reading;
-mod records;
-mod replies;
-mod stands;
+mod print;
+mod read;
 #[cfg(test)]
 mod tests;
-mod transcripts;
-mod words;
 
-pub use laws::law_texts_differ;
-pub use pages::print_page;
-pub use reader::{ReadRefusal, read_transcript};
-pub use records::print_record;
-pub use transcripts::print_transcript;
+pub use laws::{law_legal_readable, law_texts_differ};
+pub use print::{print_page, print_record, print_transcript};
+pub use read::{ReadRefusal, read_transcript};

@@ -1,6 +1,6 @@
 //! The texts of a run of each mode, and of each reply.
 
-use crate::pages::{push_child_line, push_row_line};
+use crate::print::pages::{push_child_line, push_row_line};
 use crate::{ReadRefusal, print_page, print_record, print_transcript, read_transcript};
 use mp_cells::{Change, Child, Link, Record, Row, RowCells};
 use mp_model::{

@@ -1,17 +1,15 @@
 -- The statements of a script whose sessions are all one are that session's, numbered from 1, each where it may stand.
-use Rattle.std.proofs.Common.{◌≡◌, ℕ, zero, suc, ◌+◌, ◌≤◌, ◌==◌, ◌||◌, Bool, true, false, List, [], ◌∷◌, ◌++◌, length, refl, sym, ap, subst, ◌∙◌, inl, inr, ◌⊎◌, length-append, if◌then◌else◌, arith}
+use Rattle.std.proofs.Common.{◌≡◌, ℕ, ◌+◌, ◌≤◌, ◌==◌, Bool, true, false, List, [], ◌∷◌, ◌++◌, length, refl, ap, ◌∙◌, length-append, if◌then◌else◌, arith}
 use mathlib.Core.Bool.{false≢true}
-use Rattle.std.specs.Prelude.{count_by}
 use Rattle.std.specs.List.{AllByRecursion}
 use Rattle.std.proofs.lemmas.Bool.Decides.{nat_tests}
-use Rattle.std.proofs.lemmas.List.{append_assoc, append-nil}
 use Rattle.std.proofs.lemmas.List.Sums.{sum_by-cons}
 use Rattle.mp_script.specs.declared.entries.Entry.{Entry}
 use Rattle.mp_script.specs.declared.entries.Entry.TheVariants.{Session, Statement}
 use Rattle.mp_script.specs.declared.statements.Line.{Line}
 use Rattle.mp_script.specs.declared.statements.Script.{Script}
 use Rattle.mp_script.specs.declared.statements.SessionOn.{SessionOn}
-use Rattle.mp_script.specs.Entries.{Said, start, with_entry, said_after, is_declared, statements, open_after, open_behind, is_open}
+use Rattle.mp_script.specs.Entries.{Said, nothing_said, with_entry, said_after, is_declared, statements, open_after, open_behind}
 use Rattle.mp_script.specs.OneSession.{NumberedIn, Runs, AreAlone, IsPlain}
 use Rattle.mp_script.specs.Spelling.{MayStand, MaySay, AllFit, Spells}
 
@@ -86,7 +84,7 @@ alone bytes script spells plain = go (only_session script.sessions.items plain.s
   where
     go : (session : ℕ) × AllByRecursion (λ s. s.session ≡ session) script.sessions.items → AreAlone script.lines.items
     go (session, all_are) =
-        let all_end : AllByRecursion (λ s. s.session ≡ session) (said_after (start script.primaries) spells.entries).sessions = rw spells.spelled.whole all_are in
-        let so_far = alone_after session (start script.primaries) spells.entries spells.spelled.fit all_end (record { numbered = tt; runs = tt; count = omega arith }) in
-        let lines_are : (said_after (start script.primaries) spells.entries).lines ≡ script.lines.items = ap (λ said. said.lines) spells.spelled.whole in
+        let all_end : AllByRecursion (λ s. s.session ≡ session) (said_after (nothing_said script.primaries) spells.entries).sessions = rw spells.spelled.whole all_are in
+        let so_far = alone_after session (nothing_said script.primaries) spells.entries spells.spelled.fit all_end (record { numbered = tt; runs = tt; count = omega arith }) in
+        let lines_are : (said_after (nothing_said script.primaries) spells.entries).lines ≡ script.lines.items = ap (λ said. said.lines) spells.spelled.whole in
         record { session = session; numbered = rw (← lines_are) so_far.numbered; runs = rw (← lines_are) so_far.runs; count = rw (← lines_are) so_far.count }

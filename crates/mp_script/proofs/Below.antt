@@ -6,9 +6,9 @@ use Rattle.mp_script.specs.declared.entries.Entry.{Entry}
 use Rattle.mp_script.specs.declared.reading.ScriptRefusal.{ScriptRefusal}
 use Rattle.mp_script.specs.declared.reading.ScriptRefusal.TheVariants.{Fault, Memory}
 use Rattle.mp_script.specs.Words.{Kept, kept_from, is_skipped, words_of}
-use Rattle.mp_script.specs.Entries.{Said, start, with_entry}
-use Rattle.mp_script.specs.Faults.{FaultAt, at_line, header_of, entry_of, said_below, said_by}
-use Rattle.mp_script.specs.Readings.{Gives}
+use Rattle.mp_script.specs.Entries.{Said, nothing_said, with_entry}
+use Rattle.mp_script.specs.Faults.{FaultAt, at_line, primaries_in, entry_of, said_below, said_by}
+use Rattle.mp_script.specs.Readings.{GivesSaid}
 use Rattle.mp_script.specs.Drafts.{said_in}
 
 abbrev pub texts : List (Bor (List ℕ)) → List (List ℕ)
@@ -49,7 +49,7 @@ below-ok said new number words rest h = by_entry (entry_of said words) h
     by_entry (Err fault) e = cc
 
 -- a line with a fault, or want of memory
-pub below-err : (said new : Said) (number : ℕ) (words : List (List ℕ)) (rest : List Kept) (refusal : ScriptRefusal) → Gives {T = Unit {0}} (λ x. new) (at_line number (entry_of said words) (λ e. Ok (with_entry said e))) (Err refusal) → Gives said_in (said_below said (record { number = number; words = words } ∷ rest)) (Err refusal)
+pub below-err : (said new : Said) (number : ℕ) (words : List (List ℕ)) (rest : List Kept) (refusal : ScriptRefusal) → GivesSaid {T = Unit {0}} (λ x. new) (at_line number (entry_of said words) (λ e. Ok (with_entry said e))) (Err refusal) → GivesSaid said_in (said_below said (record { number = number; words = words } ∷ rest)) (Err refusal)
 below-err said new number words rest Memory h = tt
 below-err said new number words rest (Fault fault line) h = by_entry (entry_of said words) h
   where
@@ -58,17 +58,17 @@ below-err said new number words rest (Fault fault line) h = by_entry (entry_of s
     by_entry (Err f) e = e
 
 -- what is passed on by `?`
-pub gives-same : {T : Type 0} (shown : T → Said) (wanted : Result Said FaultAt) (result : Result T ScriptRefusal) (refusal : ScriptRefusal) → IsErrAnd result (λ e. e ≡ refusal) → Gives shown wanted (Err refusal) → Gives shown wanted result
+pub gives-same : {T : Type 0} (shown : T → Said) (wanted : Result Said FaultAt) (result : Result T ScriptRefusal) (refusal : ScriptRefusal) → IsErrAnd result (λ e. e ≡ refusal) → GivesSaid shown wanted (Err refusal) → GivesSaid shown wanted result
 gives-same shown wanted (Ok x) refusal h g = absurd h
-gives-same shown wanted (Err e) refusal h g = subst (λ r. Gives shown wanted (Err r)) (sym h) g
+gives-same shown wanted (Err e) refusal h g = subst (λ r. GivesSaid shown wanted (Err r)) (sym h) g
 
 -- the first kept line, where it has no fault
-pub by-ok : (primaries number : ℕ) (words : List (List ℕ)) (rest : List Kept) → at_line number (header_of words) (λ n. Ok n) ≡ Ok primaries → said_by (record { number = number; words = words } ∷ rest) ≡ said_below (start primaries) rest
-by-ok primaries number words rest h = by_header (header_of words) h
+pub by-ok : (primaries number : ℕ) (words : List (List ℕ)) (rest : List Kept) → at_line number (primaries_in words) (λ n. Ok n) ≡ Ok primaries → said_by (record { number = number; words = words } ∷ rest) ≡ said_below (nothing_said primaries) rest
+by-ok primaries number words rest h = by_header (primaries_in words) h
   where
     ok_same : {x y : ℕ} → ◌≡◌ {A = Result ℕ FaultAt} (Ok x) (Ok y) → x ≡ y
     ok_same e = cc
 
-    by_header : (r : Result ℕ ℕ) → at_line number r (λ n. Ok n) ≡ Ok primaries → at_line number r (λ n. said_below (start n) rest) ≡ said_below (start primaries) rest
-    by_header (Ok n) e = ap (λ x. said_below (start x) rest) (ok_same e)
+    by_header : (r : Result ℕ ℕ) → at_line number r (λ n. Ok n) ≡ Ok primaries → at_line number r (λ n. said_below (nothing_said n) rest) ≡ said_below (nothing_said primaries) rest
+    by_header (Ok n) e = ap (λ x. said_below (nothing_said x) rest) (ok_same e)
     by_header (Err fault) e = cc

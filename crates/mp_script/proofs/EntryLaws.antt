@@ -14,12 +14,12 @@ use Rattle.mp_script.specs.declared.statements.Line.{Line}
 use Rattle.mp_script.specs.declared.statements.SessionOn.{SessionOn}
 use Rattle.mp_script.specs.declared.entries.Entry.{Entry}
 use Rattle.mp_script.specs.declared.entries.Entry.TheVariants.{Session, Statement}
-use Rattle.mp_script.specs.Text.{name_text, header_words, session_words, stmt_words, line_words}
-use Rattle.mp_script.specs.Words.{name_digits, number_of, stmt_of, IsStmt}
-use Rattle.mp_script.specs.Entries.{Said, start, with_entry, entry_words, is_declared, statements, is_open}
-use Rattle.mp_script.specs.Faults.{primaries_of, header_of, on_primary, new_session, declared_name, session_entry, may_stand, next_line, in_session, stmt_entry, entry_of}
-use Rattle.mp_script.specs.Spelling.{MayStand, MayDeclare, MaySay, Fits}
-use Rattle.mp_script.proofs.Numbers.{numerals, number_of-decimal, number_of-Some}
+use Rattle.mp_script.specs.Text.{name_text, header_line_words, session_words, stmt_words, stmt_line_words}
+use Rattle.mp_script.specs.Words.{name_digits, word_number, stmt_of, IsStmt}
+use Rattle.mp_script.specs.Entries.{Said, nothing_said, with_entry, entry_words, is_declared, statements, has_open_trx}
+use Rattle.mp_script.specs.Faults.{primaries_of, primaries_in, on_primary, new_session, declared_name, session_entry, may_stand, next_line, in_session, stmt_entry, entry_of}
+use Rattle.mp_script.specs.Spelling.{MayStand, MayDeclare, MaySay, EntryFits}
+use Rattle.mp_script.proofs.Numbers.{numerals, word_number-decimal, word_number-Some}
 use Rattle.mp_script.proofs.Splitting.{and-parts, both}
 use Rattle.mp_script.proofs.StmtWords.{stmt_of-stmt_words, stmt_of-Ok}
 
@@ -62,7 +62,7 @@ name_digits-name session h = chosen _ (Some (decimal session)) None (both (lt-lt
 
 -- what a line says that has no fault
 abbrev Says : Said → List (List ℕ) → Entry → Type 0
-Says said words entry = Fits said entry × (words ≡ entry_words entry)
+Says said words entry = EntryFits said entry × (words ≡ entry_words entry)
 
 nonzero : (n : ℕ) → (n == 0) ≡ false → 1 ≤ n
 nonzero n h = grind (arith, nat_tests)
@@ -133,10 +133,10 @@ four_words e f g = cc
 session-says : (said : Said) (name primary : List ℕ) (o : Option (List ℕ)) (entry : Entry) → name_digits name ≡ o → declared_name said o primary ≡ Ok entry → Says said (codes "session" ∷ name ∷ codes "on" ∷ primary ∷ []) entry
 session-says said name primary None entry n h = cc
 session-says said name primary (Some digits) entry n h =
-    let a : IsNewSession said (number_of digits) (number_of primary) entry = new_session-Ok said (number_of digits) (number_of primary) entry h in
-    let b : IsOnPrimary said a.session (number_of primary) entry = on_primary-Ok said a.session (number_of primary) entry a.rest in
-    let s : (digits ≡ decimal a.session) × (a.session < 2 ^ 32) = number_of-Some digits a.session a.is in
-    let p : (primary ≡ decimal b.primary) × (b.primary < 2 ^ 32) = number_of-Some primary b.primary b.is in
+    let a : IsNewSession said (word_number digits) (word_number primary) entry = new_session-Ok said (word_number digits) (word_number primary) entry h in
+    let b : IsOnPrimary said a.session (word_number primary) entry = on_primary-Ok said a.session (word_number primary) entry a.rest in
+    let s : (digits ≡ decimal a.session) × (a.session < 2 ^ 32) = word_number-Some digits a.session a.is in
+    let p : (primary ≡ decimal b.primary) × (b.primary < 2 ^ 32) = word_number-Some primary b.primary b.is in
     let name_is : name ≡ name_text a.session = name_digits-Some name digits n ∙ ap (λ d. 115 ∷ d) s.0 in
     subst (Says said (codes "session" ∷ name ∷ codes "on" ∷ primary ∷ [])) b.entry_is
     (record { session_low = a.low; session_high = a.high; primary_low = b.low; primary_high = b.high; new = b.new }, four_words name_is refl p.0)
@@ -196,14 +196,14 @@ lined session index stmt = record { session = session; index = index; stmt = stm
 record IsNextLine (said : Said) (session : ℕ) (r : Result Stmt ℕ) (entry : Entry) : Type 0 where
   stmt : Stmt
   is : r ≡ Ok stmt
-  stands : MayStand (is_open said.lines session) stmt
+  stands : MayStand (has_open_trx said.lines session) stmt
   room : length said.lines < 10000
   entry_is : Statement (lined session (statements said.lines session + 1) stmt) ≡ entry
 
 next_line-Ok : (said : Said) (session : ℕ) (r : Result Stmt ℕ) (entry : Entry) → next_line said session r ≡ Ok entry → IsNextLine said session r entry
 next_line-Ok said session (Err fault) entry h = cc
 next_line-Ok said session (Ok stmt) entry h =
-    elim (by_bool (may_stand (is_open said.lines session) stmt) _ _ _ h) [
+    elim (by_bool (may_stand (has_open_trx said.lines session) stmt) _ _ _ h) [
       | inl a ↦ elim (by_bool (nat_lt (length said.lines) 10000) _ _ _ a.1) [
         | inl b ↦ record { stmt = stmt; is = refl; stands = may_stand-true _ stmt a.0; room = ltb-true _ _ b.0; entry_is = ok_same b.1 }
         | inr b ↦ absurd (wrong b.1)
@@ -235,16 +235,16 @@ one_more e f = cc
 stmt-says : (said : Said) (name : List ℕ) (words : List (List ℕ)) (o : Option (List ℕ)) (entry : Entry) → name_digits name ≡ o → stmt_entry said o words ≡ Ok entry → Says said (name ∷ words) entry
 stmt-says said name words None entry n h = cc
 stmt-says said name words (Some digits) entry n h =
-    let a : IsInSession said (number_of digits) words entry = in_session-Ok said (number_of digits) words entry h in
+    let a : IsInSession said (word_number digits) words entry = in_session-Ok said (word_number digits) words entry h in
     let b : IsNextLine said a.session (stmt_of words) entry = next_line-Ok said a.session (stmt_of words) entry a.rest in
-    let s : (digits ≡ decimal a.session) × (a.session < 2 ^ 32) = number_of-Some digits a.session a.is in
+    let s : (digits ≡ decimal a.session) × (a.session < 2 ^ 32) = word_number-Some digits a.session a.is in
     let w : (words ≡ stmt_words b.stmt) × IsStmt b.stmt = stmt_of-Ok words b.stmt b.is in
     let name_is : name ≡ name_text a.session = name_digits-Some name digits n ∙ ap (λ d. 115 ∷ d) s.0 in
     subst (Says said (name ∷ words)) b.entry_is
     (record { declared = a.declared; number = refl; within = w.1; stands = b.stands; room = b.room }, one_more name_is w.0)
 
 -- what is said fits, and is spelled by its words
-pub entry_of-Ok : (said : Said) (words : List (List ℕ)) (entry : Entry) → entry_of said words ≡ Ok entry → Fits said entry × (words ≡ entry_words entry)
+pub entry_of-Ok : (said : Said) (words : List (List ℕ)) (entry : Entry) → entry_of said words ≡ Ok entry → EntryFits said entry × (words ≡ entry_words entry)
 entry_of-Ok said [] entry h = cc
 entry_of-Ok said (first ∷ rest) entry h =
     elim (by_word first (codes "session") _ _ _ h) [
@@ -253,12 +253,12 @@ entry_of-Ok said (first ∷ rest) entry h =
     ]
 
 -- the first line: two words, and a number from 1 to 8
-pub header_of-Ok : (words : List (List ℕ)) (primaries : ℕ) → header_of words ≡ Ok primaries → (words ≡ header_words primaries) × (1 ≤ primaries) × (primaries ≤ 8)
+pub header_of-Ok : (words : List (List ℕ)) (primaries : ℕ) → primaries_in words ≡ Ok primaries → (words ≡ header_line_words primaries) × (1 ≤ primaries) × (primaries ≤ 8)
 header_of-Ok [] primaries h = cc
 header_of-Ok (word ∷ []) primaries h = cc
 header_of-Ok (word ∷ number ∷ []) primaries h =
     elim (by_word word (codes "primaries") _ _ _ h) [
-      | inl a ↦ by_number (number_of number) refl a.0 a.1
+      | inl a ↦ by_number (word_number number) refl a.0 a.1
       | inr a ↦ cc
     ]
   where
@@ -271,7 +271,7 @@ header_of-Ok (word ∷ number ∷ []) primaries h =
     wrong : {f : ℕ} → ◌≡◌ {A = Result ℕ ℕ} (Err f) (Ok primaries) → ⊥
     wrong e = cc
 
-    by_number : (o : Option ℕ) → number_of number ≡ o → word ≡ codes "primaries" → primaries_of o ≡ Ok primaries → (word ∷ number ∷ [] ≡ header_words primaries) × (1 ≤ primaries) × (primaries ≤ 8)
+    by_number : (o : Option ℕ) → word_number number ≡ o → word ≡ codes "primaries" → primaries_of o ≡ Ok primaries → (word ∷ number ∷ [] ≡ header_line_words primaries) × (1 ≤ primaries) × (primaries ≤ 8)
     by_number None n w e = cc
     by_number (Some p) n w e =
         elim (by_bool (p == 0) _ _ _ e) [
@@ -279,7 +279,7 @@ header_of-Ok (word ∷ number ∷ []) primaries h =
           | inr a ↦ elim (by_bool (nat_le p 8) _ _ _ a.1) [
             | inl b ↦
                 let same : p ≡ primaries = ok_number b.1 in
-                let t : (number ≡ decimal p) × (p < 2 ^ 32) = number_of-Some number p n in
+                let t : (number ≡ decimal p) × (p < 2 ^ 32) = word_number-Some number p n in
                 let low : 1 ≤ p = nonzero p a.0 in
                 let high : p ≤ 8 = le-true p 8 b.0 in
                 (two w (t.0 ∙ ap decimal same), omega (arith, low, same), omega (arith, high, same))
@@ -297,9 +297,9 @@ le-test n m h = grind (arith, nat_tests)
 not_above : (n m : ℕ) → n ≤ m → nat_lt m n ≡ false
 not_above n m h = grind (arith, nat_tests)
 
-pub header_of-words : (primaries : ℕ) → 1 ≤ primaries → primaries ≤ 8 → header_of (header_words primaries) ≡ Ok primaries
+pub header_of-words : (primaries : ℕ) → 1 ≤ primaries → primaries ≤ 8 → primaries_in (header_line_words primaries) ≡ Ok primaries
 header_of-words primaries low high =
-    ap primaries_of (number_of-decimal primaries (omega arith))
+    ap primaries_of (word_number-decimal primaries (omega arith))
     ∙ passed (primaries == 0) _ _ (not_zero primaries low)
     ∙ chosen (nat_le primaries 8) _ _ (le-test primaries 8 high)
 
@@ -311,10 +311,10 @@ pub record IsBounded (said : Said) : Type 0 where
 session-read : (said : Said) (s : SessionOn) → IsBounded said → MayDeclare said s → entry_of said (session_words s) ≡ Ok (Session s)
 session-read said s b h =
     let name : name_digits (name_text s.session) ≡ Some (decimal s.session) = name_digits-name s.session (omega (arith, h.session_high)) in
-    let number : number_of (decimal s.session) ≡ Some s.session = number_of-decimal s.session (omega (arith, h.session_high)) in
-    let primary : number_of (decimal s.primary) ≡ Some s.primary = number_of-decimal s.primary (omega (arith, h.primary_high, b.primaries)) in
+    let number : word_number (decimal s.session) ≡ Some s.session = word_number-decimal s.session (omega (arith, h.session_high)) in
+    let primary : word_number (decimal s.primary) ≡ Some s.primary = word_number-decimal s.primary (omega (arith, h.primary_high, b.primaries)) in
     ap (λ o. declared_name said o (decimal s.primary)) name
-    ∙ ap (λ o. new_session said o (number_of (decimal s.primary))) number
+    ∙ ap (λ o. new_session said o (word_number (decimal s.primary))) number
     ∙ passed (s.session == 0) _ _ (not_zero s.session h.session_low)
     ∙ chosen (nat_le s.session 64) _ _ (le-test s.session 64 h.session_high)
     ∙ ap (on_primary said s.session) primary
@@ -333,22 +333,22 @@ digits_differ (c ∷ cs) h = wrong_letter (c == 101) _ (no_letter c (and-parts h
     wrong_letter true b e = cc
     wrong_letter false b e = refl
 
-line-read : (said : Said) (line : Line) → IsBounded said → MaySay said line → entry_of said (line_words line) ≡ Ok (Statement line)
+line-read : (said : Said) (line : Line) → IsBounded said → MaySay said line → entry_of said (stmt_line_words line) ≡ Ok (Statement line)
 line-read said line b h =
     let low : line.session ≤ 64 = b.sessions line.session h.declared in
     let name : name_digits (name_text line.session) ≡ Some (decimal line.session) = name_digits-name line.session (omega (arith, low)) in
-    let number : number_of (decimal line.session) ≡ Some line.session = number_of-decimal line.session (omega (arith, low)) in
+    let number : word_number (decimal line.session) ≡ Some line.session = word_number-decimal line.session (omega (arith, low)) in
     passed (bytes_eq (name_text line.session) (codes "session")) _ _ (digits_differ (decimal line.session) (digits_decimal numerals line.session (omega (arith, low))))
     ∙ ap (λ o. stmt_entry said o (stmt_words line.stmt)) name
     ∙ ap (λ o. in_session said o (stmt_words line.stmt)) number
     ∙ chosen (is_declared said.sessions line.session) _ _ h.declared
     ∙ ap (next_line said line.session) (stmt_of-stmt_words line.stmt h.within)
-    ∙ chosen (may_stand (is_open said.lines line.session) line.stmt) _ _ (stands-true _ line.stmt h.stands)
+    ∙ chosen (may_stand (has_open_trx said.lines line.session) line.stmt) _ _ (stands-true _ line.stmt h.stands)
     ∙ chosen (nat_lt (length said.lines) 10000) _ _ (lt-ltb _ _ h.room)
     ∙ ap (λ i. Ok (Statement (lined line.session i line.stmt))) (sym h.number)
 
 -- the words of an entry that fits are read as it
-pub entry_of-words : (said : Said) (entry : Entry) → IsBounded said → Fits said entry → entry_of said (entry_words entry) ≡ Ok entry
+pub entry_of-words : (said : Said) (entry : Entry) → IsBounded said → EntryFits said entry → entry_of said (entry_words entry) ≡ Ok entry
 entry_of-words said (Session s) b h = session-read said s b h
 entry_of-words said (Statement line) b h = line-read said line b h
 
@@ -364,9 +364,9 @@ declared-push (x ∷ sessions) s session h = first (session == x.session) (decla
     first true rest h = inl refl
     first false rest h = rest h
 
-pub bounded-next : (said : Said) (entry : Entry) → IsBounded said → Fits said entry → IsBounded (with_entry said entry)
+pub bounded-next : (said : Said) (entry : Entry) → IsBounded said → EntryFits said entry → IsBounded (with_entry said entry)
 bounded-next said (Session s) b h = record { primaries = b.primaries; sessions = λ session d. elim (declared-push said.sessions s session d) [ inl old ↦ b.sessions session old | inr new ↦ omega (arith, new, h.session_high) ] }
 bounded-next said (Statement line) b h = record { primaries = b.primaries; sessions = b.sessions }
 
-pub bounded-start : (primaries : ℕ) → primaries ≤ 8 → IsBounded (start primaries)
+pub bounded-start : (primaries : ℕ) → primaries ≤ 8 → IsBounded (nothing_said primaries)
 bounded-start primaries h = record { primaries = h; sessions = λ session d. cc }

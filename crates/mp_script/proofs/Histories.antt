@@ -10,7 +10,7 @@ use Rattle.mp_model.specs.declared.key_value.KeyValue.{KeyValue}
 use Rattle.mp_model.specs.declared.replies.Answer.{Answer}
 use Rattle.mp_model.specs.Folded.{over, before, writes_up_to}
 use Rattle.mp_model.proofs.Folds.{over_append}
-use Rattle.mp_script.specs.Told.{Told}
+use Rattle.mp_script.specs.Execution.{Execution}
 use Rattle.mp_script.specs.Transactions.{trx_of, view_of}
 use Rattle.mp_script.specs.Seen.{own_writes, acknowledgement, commit_by, history}
 use Rattle.mp_script.proofs.Lists.{all_append, all_map}
@@ -34,39 +34,39 @@ pub flat_map_append : (first more : List Commit) → flat_map (λ commit. commit
 flat_map_append [] more = refl
 flat_map_append (commit ∷ first) more = ap (λ writes. commit.writes.items ++ writes) (flat_map_append first more) ∙ sym (append_assoc commit.writes.items _ _)
 
-module _ (told : Told) where
+module _ (run : Execution) where
   -- the commit with a number, where there is one, has it
-  numbered : (P : ℕ → Type 0) (lower : List Commit) (number : ℕ) (found : Option Answer) → P number → AllByRecursion (λ commit. P commit.cts) (commit_by told lower number found)
+  numbered : (P : ℕ → Type 0) (lower : List Commit) (number : ℕ) (found : Option Answer) → P number → AllByRecursion (λ commit. P commit.cts) (commit_by run lower number found)
   numbered P lower number None holds = tt
   numbered P lower number (Some answer) holds = (holds, tt)
 
   -- the first commits have the first numbers
-  pub history_bound : (count : ℕ) → AllByRecursion (λ commit. commit.cts ≤ told.opening.base + count) (history told count)
+  pub history_bound : (count : ℕ) → AllByRecursion (λ commit. commit.cts ≤ run.opening.base + count) (history run count)
   history_bound zero = tt
-  history_bound (suc count) = all_append (λ commit. commit.cts ≤ told.opening.base + suc count) (history told count) _
-      (all_map (λ commit. commit.cts ≤ told.opening.base + count) (λ commit. commit.cts ≤ told.opening.base + suc count) (history told count) (λ commit le. omega arith) (history_bound count))
-      (numbered (λ cts. cts ≤ told.opening.base + suc count) (history told count) (told.opening.base + suc count) (acknowledgement told.answers (told.opening.base + suc count)) (omega arith))
+  history_bound (suc count) = all_append (λ commit. commit.cts ≤ run.opening.base + suc count) (history run count) _
+      (all_map (λ commit. commit.cts ≤ run.opening.base + count) (λ commit. commit.cts ≤ run.opening.base + suc count) (history run count) (λ commit le. omega arith) (history_bound count))
+      (numbered (λ cts. cts ≤ run.opening.base + suc count) (history run count) (run.opening.base + suc count) (acknowledgement run.answers (run.opening.base + suc count)) (omega arith))
 
   -- a view shows no commit above it
-  pub history_later : (rows : List KeyValue) (count made : ℕ) → made ≤ count → before rows (history told count) (told.opening.base + made) ≡ before rows (history told made) (told.opening.base + made)
+  pub history_later : (rows : List KeyValue) (count made : ℕ) → made ≤ count → before rows (history run count) (run.opening.base + made) ≡ before rows (history run made) (run.opening.base + made)
   history_later rows zero made le = let e : made ≡ 0 = omega arith in rw e refl
   history_later rows (suc count) made le = go (cases_lt made (suc count)) (history_later rows count made)
     where
-      go : (made < suc count) ⊎ (suc count ≤ made) → (made ≤ count → before rows (history told count) (told.opening.base + made) ≡ before rows (history told made) (told.opening.base + made)) → before rows (history told (suc count)) (told.opening.base + made) ≡ before rows (history told made) (told.opening.base + made)
-      go (inl lt) same = ap (λ writes. over rows writes) (writes_hidden (history told count) (commit_by told (history told count) (told.opening.base + suc count) (acknowledgement told.answers (told.opening.base + suc count))) (told.opening.base + made) (numbered (λ cts. told.opening.base + made < cts) (history told count) (told.opening.base + suc count) (acknowledgement told.answers (told.opening.base + suc count)) (omega arith))) ∙ same (omega arith)
+      go : (made < suc count) ⊎ (suc count ≤ made) → (made ≤ count → before rows (history run count) (run.opening.base + made) ≡ before rows (history run made) (run.opening.base + made)) → before rows (history run (suc count)) (run.opening.base + made) ≡ before rows (history run made) (run.opening.base + made)
+      go (inl lt) same = ap (λ writes. over rows writes) (writes_hidden (history run count) (commit_by run (history run count) (run.opening.base + suc count) (acknowledgement run.answers (run.opening.base + suc count))) (run.opening.base + made) (numbered (λ cts. run.opening.base + made < cts) (history run count) (run.opening.base + suc count) (acknowledgement run.answers (run.opening.base + suc count)) (omega arith))) ∙ same (omega arith)
       go (inr ge) same = let e : made ≡ suc count = omega arith in rw e refl
 
   -- the next commit is folded over those before it
-  pub history_next : (rows : List KeyValue) (made : ℕ) (answer : Answer) → acknowledgement told.answers (told.opening.base + suc made) ≡ Some answer
-      → before rows (history told (suc made)) (told.opening.base + suc made)
-      ≡ over (before rows (history told made) (told.opening.base + made)) (own_writes told (before told.opening.rows.items (history told made) (view_of told (trx_of told answer))) (trx_of told answer) answer.index)
+  pub history_next : (rows : List KeyValue) (made : ℕ) (answer : Answer) → acknowledgement run.answers (run.opening.base + suc made) ≡ Some answer
+      → before rows (history run (suc made)) (run.opening.base + suc made)
+      ≡ over (before rows (history run made) (run.opening.base + made)) (own_writes run (λ index. before run.opening.rows.items (history run made) (view_of run (trx_of run answer))) (trx_of run answer) answer.index)
   history_next rows made answer found =
-      let lower = history told made in
-      let number = told.opening.base + suc made in
-      let mine = own_writes told (before told.opening.rows.items lower (view_of told (trx_of told answer))) (trx_of told answer) answer.index in
-      let all = writes_shown (history told (suc made)) number (history_bound (suc made)) in
-      let here : history told (suc made) ≡ lower ++ commit_by told lower number (Some answer) = rw found refl in
-      let below = writes_shown lower (told.opening.base + made) (history_bound made) in
-      ap (λ writes. over rows writes) (all ∙ ap (λ commits. flat_map (λ commit. commit.writes.items) commits) here ∙ flat_map_append lower (commit_by told lower number (Some answer)) ∙ ap (λ writes. writes ++ (mine ++ [])) (sym below))
-      ∙ over_append rows (writes_up_to lower (told.opening.base + made)) (mine ++ [])
-      ∙ ap (λ writes. over (before rows lower (told.opening.base + made)) writes) (append-nil mine)
+      let lower = history run made in
+      let number = run.opening.base + suc made in
+      let mine = own_writes run (λ index. before run.opening.rows.items lower (view_of run (trx_of run answer))) (trx_of run answer) answer.index in
+      let all = writes_shown (history run (suc made)) number (history_bound (suc made)) in
+      let here : history run (suc made) ≡ lower ++ commit_by run lower number (Some answer) = rw found refl in
+      let below = writes_shown lower (run.opening.base + made) (history_bound made) in
+      ap (λ writes. over rows writes) (all ∙ ap (λ commits. flat_map (λ commit. commit.writes.items) commits) here ∙ flat_map_append lower (commit_by run lower number (Some answer)) ∙ ap (λ writes. writes ++ (mine ++ [])) (sym below))
+      ∙ over_append rows (writes_up_to lower (run.opening.base + made)) (mine ++ [])
+      ∙ ap (λ writes. over (before rows lower (run.opening.base + made)) writes) (append-nil mine)

@@ -21,5 +21,11 @@ pub mod Below
 pub mod ScriptLaws
 pub mod Alone
 pub mod Canonical
+pub mod Counted
+pub mod InTurn
+pub mod SpelledLines
+pub mod BeginCount
+pub mod SeenRows
+pub mod Tested
 pub mod Pigeonhole
 pub mod Printed

@@ -4,7 +4,7 @@ use Rattle.std.specs.Prelude.{find}
 use Rattle.std.specs.List.{AllByRecursion}
 use Rattle.std.proofs.lemmas.Bool.Decides.{nat_tests}
 use Rattle.mp_model.specs.declared.replies.Answer.{Answer}
-use Rattle.mp_script.specs.Below.{EachBelow, from_first, greatest}
+use Rattle.mp_script.specs.Below.{EachBelow, from_first, greatest_cts}
 
 pub all_append : {T : Type 0} (P : T → Type 0) (xs ys : List T) → AllByRecursion P xs → AllByRecursion P ys → AllByRecursion P (xs ++ ys)
 all_append P [] ys all_xs all_ys = all_ys
@@ -43,10 +43,10 @@ from_first_append test [] more none = refl
 from_first_append test (answer ∷ first) more none = rw none.0 (from_first_append test first more none.1)
 
 -- the greatest of one number more
-pub greatest_more : (base : ℕ) (numbers : List ℕ) (number : ℕ) → greatest base numbers ≤ number → greatest base (numbers ++ number ∷ []) ≡ number
+pub greatest_more : (base : ℕ) (numbers : List ℕ) (number : ℕ) → greatest_cts base numbers ≤ number → greatest_cts base (numbers ++ number ∷ []) ≡ number
 greatest_more base [] number le = grind (arith, nat_tests)
 greatest_more base (first ∷ numbers) number le =
-    let lower : greatest base numbers ≤ number = grind (arith, nat_tests) in
+    let lower : greatest_cts base numbers ≤ number = grind (arith, nat_tests) in
     let at : first ≤ number = grind (arith, nat_tests) in
     rw (greatest_more base numbers number lower) (grind (arith, nat_tests))
 

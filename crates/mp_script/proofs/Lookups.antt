@@ -4,7 +4,7 @@ use Rattle.std.specs.List.{AllByRecursion}
 use Rattle.std.proofs.lemmas.Bool.Decides.{nat_tests}
 use Rattle.mp_model.specs.declared.replies.Answer.{Answer}
 use Rattle.mp_script.specs.declared.statements.Line.{Line}
-use Rattle.mp_script.specs.Told.{line_at, answer_at}
+use Rattle.mp_script.specs.Execution.{line_at, answer_at}
 
 pub line_found : (done : List Line) (line : Line) (todo : List Line) (session index : ℕ) → AllByRecursion (λ l. l.index < index) done → line.session ≡ session → line.index ≡ index → line_at (done ++ line ∷ todo) session index ≡ Some line
 line_found [] line todo session index lower its at = grind (arith, nat_tests)

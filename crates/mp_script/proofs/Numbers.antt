@@ -10,7 +10,7 @@ use Rattle.std.specs.Result.{result_ok, OkIff}
 use Rattle.std.specs.Str.Parse.{digits_value, ParsesUnsigned}
 use Rattle.std.proofs.lemmas.Bool.Decides.{nat_tests}
 use Rattle.std.proofs.lemmas.Str.Parse.{IsDigitsTest, IsNumeralModel, numerals_by_value, parse_digits}
-use Rattle.mp_script.specs.Words.{is_numeral, number_of}
+use Rattle.mp_script.specs.Words.{is_numeral, word_number}
 
 pub tells_digits : IsDigitsTest (λ ds. list_all is_ascii_digit ds ≡ true)
 tells_digits = search rules
@@ -44,7 +44,7 @@ not_lt : (a b : ℕ) → (a < b → ⊥) → ltb a b ≡ false
 not_lt a b h = grind (arith, nat_tests)
 
 -- what `parse` makes of a numeral is its number
-pub parsed_number : {E : Type 0} (word : List ℕ) (r : Result ℕ E) → is_numeral word ≡ true → ParsesUnsigned 32 10 word r → result_ok r ≡ number_of word
+pub parsed_number : {E : Type 0} (word : List ℕ) (r : Result ℕ E) → is_numeral word ≡ true → ParsesUnsigned 32 10 word r → result_ok r ≡ word_number word
 parsed_number {E} word (Ok x) h p =
     let e : OkIff {E = E} (Ok x) ((0 < length word) × (digits_value 10 word < 2 ^ 32)) (digits_value 10 word) = parse_digits numerals {E = E} 32 word (Ok x) p (numeral-digits word h) in
     ap Some e.1 ∙ sym (both_true (is_numeral word) _ (digits_value 10 word) h (lt-ltb _ _ e.0.1))
@@ -67,8 +67,8 @@ numeral-decimal : (n : ℕ) → n < 2 ^ 64 → is_numeral (decimal n) ≡ true
 numeral-decimal zero h = rw (decimal_digit 0 (lit< tt)) refl
 numeral-decimal (suc n) h = numeral_from (decimal (suc n)) (digits_decimal numerals (suc n) h) (decimal_nonempty (suc n) h) (first_decimal (suc n) (omega arith) h)
 
-pub number_of-decimal : (n : ℕ) → n < 2 ^ 32 → number_of (decimal n) ≡ Some n
-number_of-decimal n h =
+pub word_number-decimal : (n : ℕ) → n < 2 ^ 32 → word_number (decimal n) ≡ Some n
+word_number-decimal n h =
     let v : digits_value 10 (decimal n) ≡ n = digits_value-decimal numerals n (omega arith) in
     both_true (is_numeral (decimal n)) _ (digits_value 10 (decimal n)) (numeral-decimal n (omega arith)) (lt-ltb _ _ (omega arith)) ∙ ap Some v
 
@@ -81,8 +81,8 @@ leading_zero : (word : List ℕ) → is_numeral word ≡ true → get_or word 0 
 leading_zero [] h e = cc
 leading_zero (first ∷ rest) h e = grind (arith, nat_tests)
 
-pub number_of-Some : (word : List ℕ) (n : ℕ) → number_of word ≡ Some n → (word ≡ decimal n) × (n < 2 ^ 32)
-number_of-Some word n h =
+pub word_number-Some : (word : List ℕ) (n : ℕ) → word_number word ≡ Some n → (word ≡ decimal n) × (n < 2 ^ 32)
+word_number-Some word n h =
     let p : (is_numeral word ≡ true) × (nat_lt (digits_value 10 word) (2 ^ 32) ≡ true) × (digits_value 10 word ≡ n) = some_parts (is_numeral word) _ (digits_value 10 word) n h in
     let small : digits_value 10 word < 2 ^ 32 = ltb-true _ _ p.1 in
     let text : decimal (digits_value 10 word) ≡ word = decimal-digits_value numerals word (numeral-digits word p.0) (numeral-some word p.0) (leading_zero word p.0) (omega arith) in

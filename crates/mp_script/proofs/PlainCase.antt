@@ -11,51 +11,51 @@ use Rattle.mp_model.specs.Folded.{before}
 use Rattle.mp_script.specs.declared.statements.Line.{Line}
 use Rattle.mp_script.specs.declared.statements.Stmt.{Stmt}
 use Rattle.mp_script.specs.declared.statements.Stmt.TheVariants.{Begin, Get, Put, Del, Copy, Scan, Commit, Rollback}
-use Rattle.mp_script.specs.Told.{Told, line_at, stmt_at, reply_at}
-use Rattle.mp_script.specs.Transactions.{begins, begin_of, trx_of, same_trx, view_of, number_of, is_number, is_wrote, is_refusal, Target, target_key, wrote_among, refused_among}
+use Rattle.mp_script.specs.Execution.{Execution, line_at, stmt_at, reply_at}
+use Rattle.mp_script.specs.Transactions.{begins, begin_in, trx_of, same_trx, view_of, cts_of, is_number, is_wrote, is_refusal, Target, target_key, wrote_among, refused_among}
 use Rattle.mp_script.specs.Seen.{write_by, writes_among, history}
 use Rattle.mp_script.specs.Right.{FollowsRefusal, IsWithoutRepeat, WaitedFor}
-use Rattle.mp_script.specs.Below.{numbers, greatest}
-use Rattle.mp_script.specs.Legal.{shows_down}
+use Rattle.mp_script.specs.Below.{numbers, greatest_cts}
+use Rattle.mp_script.specs.WentDown.{shows_down}
 use Rattle.mp_script.specs.Plain.{Plain, commit_reply, IsReplyTo}
 
 -- what is kept of the open transaction, once count statements are answered
-pub record Opened (told : Told) (session : ℕ) (above : List Answer) (count : ℕ) (plain : Plain) : Type 0 where
+pub record Opened (run : Execution) (session : ℕ) (above : List Answer) (count : ℕ) (plain : Plain) : Type 0 where
   pub first : ℕ
-  pub begun : begin_of told session count ≡ first
+  pub begun : begin_in run.lines session count ≡ first
   pub low : first ≤ count
-  pub view : view_of told (record { session = session; first = first }) ≡ plain.number
-  pub own : writes_among told plain.committed (record { session = session; first = first }) (count - first) ≡ plain.own
-  pub keys : (key : ℕ) → wrote_among told (record { session = session; first = first }) (count - first) key ≡ list_any (λ write. write.key == key) plain.own
-  pub refused : refused_among told (record { session = session; first = first }) (count - first) ≡ false
+  pub view : view_of run (record { session = session; first = first }) ≡ plain.number
+  pub own : writes_among run (λ index. plain.committed) (record { session = session; first = first }) (count - first) ≡ plain.own
+  pub keys : (key : ℕ) → wrote_among run (record { session = session; first = first }) (count - first) key ≡ list_any (λ write. write.key == key) plain.own
+  pub refused : refused_among run (record { session = session; first = first }) (count - first) ≡ false
   pub earlier : List Answer
   pub later : List Answer
   pub split : above ≡ earlier ++ later
-  pub not_its : AllByRecursion (λ answer. same_trx (trx_of told answer) (record { session = session; first = first }) ≡ false) earlier
-  pub its : AllByRecursion (λ answer. trx_of told answer ≡ record { session = session; first = first }) later
+  pub not_its : AllByRecursion (λ answer. same_trx (trx_of run answer) (record { session = session; first = first }) ≡ false) earlier
+  pub its : AllByRecursion (λ answer. trx_of run answer ≡ record { session = session; first = first }) later
 
 -- a transaction's facts, where one is open
-abbrev pub WhileOpen : Bool → Told → ℕ → List Answer → ℕ → Plain → Type 0
-WhileOpen true told session above count plain = Opened told session above count plain
-WhileOpen false told session above count plain = plain.own ≡ []
+abbrev pub WhileOpen : Bool → Execution → ℕ → List Answer → ℕ → Plain → Type 0
+WhileOpen true run session above count plain = Opened run session above count plain
+WhileOpen false run session above count plain = plain.own ≡ []
 
 -- what is kept of the answers so far, once count statements are answered
-pub record Agrees (told : Told) (session : ℕ) (above : List Answer) (open_now : Bool) (count : ℕ) (plain : Plain) : Type 0 where
+pub record Agrees (run : Execution) (session : ℕ) (above : List Answer) (open_now : Bool) (count : ℕ) (plain : Plain) : Type 0 where
   pub made : ℕ
-  pub in_range : made ≤ told.commits
-  pub number : plain.number ≡ told.opening.base + made
-  pub committed : before told.opening.rows.items (history told made) (told.opening.base + made) ≡ plain.committed
-  pub bounded : AllByRecursion (λ answer. IfSome (number_of answer.reply) (λ number. number ≤ plain.number)) above
-  pub latest : greatest told.opening.base (numbers above) ≡ plain.number
+  pub in_range : made ≤ run.commits
+  pub number : plain.number ≡ run.opening.base + made
+  pub committed : before run.opening.rows.items (history run made) (run.opening.base + made) ≡ plain.committed
+  pub bounded : AllByRecursion (λ answer. IfSome (cts_of answer.reply) (λ number. number ≤ plain.number)) above
+  pub latest : greatest_cts run.opening.base (numbers above) ≡ plain.number
   pub lower : AllByRecursion (λ answer. answer.index ≤ count) above
   pub calm : AllByRecursion (λ answer. shows_down answer.reply ≡ false) above
-  pub opened : WhileOpen open_now told session above count plain
+  pub opened : WhileOpen open_now run session above count plain
 
 -- the next statement and its answer, as they are found
-pub record Step (told : Told) (session : ℕ) (count : ℕ) (line : Line) (answer : Answer) : Type 0 where
-  pub line_is : line_at told.lines session (suc count) ≡ Some line
-  pub stmt_is : stmt_at told session (suc count) ≡ Some line.stmt
-  pub reply_is : reply_at told session (suc count) ≡ Some answer.reply
+pub record Step (run : Execution) (session : ℕ) (count : ℕ) (line : Line) (answer : Answer) : Type 0 where
+  pub line_is : line_at run.lines session (suc count) ≡ Some line
+  pub stmt_is : stmt_at run session (suc count) ≡ Some line.stmt
+  pub reply_is : reply_at run session (suc count) ≡ Some answer.reply
   pub line_session : line.session ≡ session
   pub line_index : line.index ≡ suc count
   pub session_is : answer.session ≡ session
@@ -131,6 +131,6 @@ follows_by plain Commit reply refused none h = rw h (go plain.own)
 follows_by plain Rollback reply refused none h = rw h none
 
 -- nobody was waited for
-pub no_waits : (told : Told) (line : Line) (target : Option Target) (waits : List TrxName) → waits ≡ [] → MatchOption target (waits ≡ []) (λ t. IsWithoutRepeat waits × AllByRecursion (WaitedFor told line t.key) waits)
-no_waits told line None waits none = none
-no_waits told line (Some target) waits none = rw none (tt, tt)
+pub no_waits : (run : Execution) (line : Line) (target : Option Target) (waits : List TrxName) → waits ≡ [] → MatchOption target (waits ≡ []) (λ t. IsWithoutRepeat waits × AllByRecursion (WaitedFor run line t.key) waits)
+no_waits run line None waits none = none
+no_waits run line (Some target) waits none = rw none (tt, tt)

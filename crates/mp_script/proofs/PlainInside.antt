@@ -9,10 +9,12 @@ use Rattle.mp_model.specs.declared.replies.Reply.{Reply}
 use Rattle.mp_script.specs.declared.statements.Line.{Line}
 use Rattle.mp_script.specs.declared.statements.Stmt.{Stmt}
 use Rattle.mp_script.specs.declared.statements.Stmt.TheVariants.{Begin, Get, Put, Del, Copy, Scan, Commit, Rollback}
-use Rattle.mp_script.specs.Told.{Told}
-use Rattle.mp_script.specs.Transactions.{begins, trx_of, same_trx, view_of, number_of, acknowledged_number, is_number, target_of, wrote_at, wrote_before, refused_before}
-use Rattle.mp_script.specs.Below.{numbers, greatest, from_first}
-use Rattle.mp_script.specs.Legal.{shows_down, IfBegan}
+use Rattle.mp_script.specs.Execution.{Execution}
+use Rattle.mp_script.specs.Transactions.{begins, trx_of, same_trx, view_of, cts_of, is_number, target_of, wrote_at, refused_before}
+use Rattle.mp_script.specs.Below.{numbers, greatest_cts, from_first}
+use Rattle.mp_script.specs.Numbered.{IfBegan}
+use Rattle.mp_script.specs.Conflicts.{AcknowledgesKey}
+use Rattle.mp_script.specs.WentDown.{shows_down}
 use Rattle.mp_script.specs.Spelling.{MayStand}
 use Rattle.mp_script.specs.Plain.{Plain, commit_reply, IsReplyTo}
 use Rattle.mp_script.proofs.Lists.{all_map, all_from_first, from_first_append}
@@ -32,15 +34,15 @@ begins_not Commit may = refl
 begins_not Rollback may = refl
 
 -- from a transaction's first write of a key on, only its own writes of the key stand
-abbrev pub KeptBy : Told → TrxName → ℕ → List Answer → Type 0
-KeptBy told trx key above = AllByRecursion (λ a. wrote_at told a.session a.index ≡ Some key → trx_of told a ≡ trx) (from_first (λ a. same_trx (trx_of told a) trx && is_number key (wrote_at told a.session a.index)) above)
+abbrev pub KeptBy : Execution → TrxName → ℕ → List Answer → Type 0
+KeptBy run trx key above = AllByRecursion (λ a. wrote_at run a.session a.index ≡ Some key → trx_of run a ≡ trx) (from_first (λ a. same_trx (trx_of run a) trx && is_number key (wrote_at run a.session a.index)) above)
 
-module _ (told : Told) (session : ℕ) (above : List Answer) (count : ℕ) (plain : Plain) (agrees : Agrees told session above true count plain) (line : Line) (answer : Answer) (step : Step told session count line answer) (may : MayStand true line.stmt) (reply : IsReplyTo plain line.stmt answer.reply) where
-  its_trx : trx_of told answer ≡ record { session = session; first = agrees.opened.first }
-  its_trx = inside_trx told session count above plain agrees line answer step (begins_not line.stmt may) reply
+module _ (run : Execution) (session : ℕ) (above : List Answer) (count : ℕ) (plain : Plain) (agrees : Agrees run session above true count plain) (line : Line) (answer : Answer) (step : Step run session count line answer) (may : MayStand true line.stmt) (reply : IsReplyTo plain line.stmt answer.reply) where
+  its_trx : trx_of run answer ≡ record { session = session; first = agrees.opened.first }
+  its_trx = inside_trx run session count above plain agrees line answer step (begins_not line.stmt may) reply
 
-  its_view : view_of told (trx_of told answer) ≡ plain.number
-  its_view = ap (λ trx. view_of told trx) its_trx ∙ agrees.opened.view
+  its_view : view_of run (trx_of run answer) ≡ plain.number
+  its_view = ap (λ trx. view_of run trx) its_trx ∙ agrees.opened.view
 
   -- the reply isn't that of a `begin`
   no_began : (P : ℕ → Type 0) → IfBegan answer.reply P
@@ -61,10 +63,10 @@ module _ (told : Told) (session : ℕ) (above : List Answer) (count : ℕ) (plai
       go Rollback r may h = rw h tt
 
   -- a number that it shows is the next
-  next_number : (number : ℕ) → number_of answer.reply ≡ Some number → number ≡ plain.number + 1
+  next_number : (number : ℕ) → cts_of answer.reply ≡ Some number → number ≡ plain.number + 1
   next_number number shows = go line.stmt answer.reply reply shows
     where
-      go : (stmt : Stmt) (r : Reply) → IsReplyTo plain stmt r → number_of r ≡ Some number → number ≡ plain.number + 1
+      go : (stmt : Stmt) (r : Reply) → IsReplyTo plain stmt r → cts_of r ≡ Some number → number ≡ plain.number + 1
       go Begin r h e = cc
       go (Get key) r h e = cc
       go (Put key value) r h e = cc
@@ -73,7 +75,7 @@ module _ (told : Told) (session : ℕ) (above : List Answer) (count : ℕ) (plai
       go (Scan low most) r h e = cc
       go Commit r h e = ends plain.own (rw h at e)
         where
-          ends : (own : List KeyWrite) → number_of (commit_reply plain.number own) ≡ Some number → number ≡ plain.number + 1
+          ends : (own : List KeyWrite) → cts_of (commit_reply plain.number own) ≡ Some number → number ≡ plain.number + 1
           ends [] e = cc
           ends (write ∷ own) e = cc
       go Rollback r h e = cc
@@ -95,34 +97,34 @@ module _ (told : Told) (session : ℕ) (above : List Answer) (count : ℕ) (plai
           ends (write ∷ own) = refl
       go Rollback r h = rw h refl
 
-  above_its_view : (shown_number : Option ℕ) → ((number : ℕ) → shown_number ≡ Some number → number ≡ plain.number + 1) → IfSome shown_number (λ number. view_of told (trx_of told answer) < number)
+  above_its_view : (shown_number : Option ℕ) → ((number : ℕ) → shown_number ≡ Some number → number ≡ plain.number + 1) → IfSome shown_number (λ number. view_of run (trx_of run answer) < number)
   above_its_view None next = tt
   above_its_view (Some number) next = let e = next number refl in omega (arith, its_view, e)
 
   -- its answer is good
-  pub inside_good : Good told above answer
+  pub inside_good : Good run above answer
   inside_good = record {
     right = record {
       line = line;
       found = rw (step.session_is, step.index_is) step.line_is;
-      reply = inside_reply told session count above plain agrees line answer step (begins_not line.stmt may) reply line.stmt answer.reply refl may reply;
-      follows = rw (step.session_is, step.index_is) (follows_by plain line.stmt answer.reply (refused_before told session (suc count)) (inside_refused told session count above plain agrees line answer step (begins_not line.stmt may) reply) reply);
-      waits = no_waits told line (target_of line.stmt) answer.waits.items step.waits_are;
+      reply = inside_reply run session count above plain agrees line answer step (begins_not line.stmt may) reply line.stmt answer.reply refl may reply;
+      follows = rw (step.session_is, step.index_is) (follows_by plain line.stmt answer.reply (refused_before run session (suc count)) (inside_refused run session count above plain agrees line answer step (begins_not line.stmt may) reply) reply);
+      waits = no_waits run line (target_of line.stmt) answer.waits.items step.waits_are;
     };
-    above_view = above_its_view (number_of answer.reply) next_number;
-    in_range = no_began (λ view. (told.opening.base ≤ view) × (view ≤ told.opening.base + told.commits));
-    sees = no_began (λ view. view ≡ greatest told.opening.base (numbers above));
-    earlier = λ key is. all_map (λ (a : Answer). IfSome (number_of a.reply) (λ n. n ≤ plain.number)) (λ a. (number : ℕ) → acknowledged_number a.reply ≡ Some number → trx_of told a ≢ trx_of told answer → view_of told (trx_of told answer) < number → wrote_before told a.session a.index key ≡ false) above
-        (λ a le number shows other lt. absurd (let bound = acknowledged_is a.reply plain.number number le shows in omega (arith, its_view, bound, lt))) agrees.bounded;
-    holds = λ number shows key. subst (λ trx. KeptBy told trx key above) (sym its_trx) (rw agrees.opened.split (held key));
+    above_view = above_its_view (cts_of answer.reply) next_number;
+    in_range = no_began (λ view. (run.opening.base ≤ view) × (view ≤ run.opening.base + run.commits));
+    sees = no_began (λ view. view ≡ greatest_cts run.opening.base (numbers above));
+    earlier = λ key is. all_map (λ (a : Answer). IfSome (cts_of a.reply) (λ n. n ≤ plain.number)) (λ a. (number : ℕ) → AcknowledgesKey run a key number → trx_of run a ≢ trx_of run answer → number ≤ view_of run (trx_of run answer)) above
+        (λ a le number acknowledges other. let bound = acknowledged_is a.reply plain.number number le acknowledges.shows in omega (arith, its_view, bound)) agrees.bounded;
+    holds = λ key number shows. subst (λ trx. KeptBy run trx key above) (sym its_trx) (rw agrees.opened.split (held key));
     calm = calm_here;
     calm_above = agrees.calm;
     next = λ number shows. next_number number shows ∙ ap (λ v. v + 1) (sym its_view);
   }
     where
-      held : (key : ℕ) → KeptBy told (record { session = session; first = agrees.opened.first }) key (agrees.opened.earlier ++ agrees.opened.later)
+      held : (key : ℕ) → KeptBy run (record { session = session; first = agrees.opened.first }) key (agrees.opened.earlier ++ agrees.opened.later)
       held key =
-          let test : Answer → Bool = λ a. same_trx (trx_of told a) (record { session = session; first = agrees.opened.first }) && is_number key (wrote_at told a.session a.index) in
-          rw (from_first_append test agrees.opened.earlier agrees.opened.later (all_map (λ (a : Answer). same_trx (trx_of told a) (record { session = session; first = agrees.opened.first }) ≡ false) (λ a. test a ≡ false) agrees.opened.earlier (λ a e. rw e refl) agrees.opened.not_its))
-          (all_map (λ (a : Answer). trx_of told a ≡ record { session = session; first = agrees.opened.first }) (λ a. wrote_at told a.session a.index ≡ Some key → trx_of told a ≡ record { session = session; first = agrees.opened.first }) (from_first test agrees.opened.later) (λ a its key_is. its)
-          (all_from_first (λ (a : Answer). trx_of told a ≡ record { session = session; first = agrees.opened.first }) test agrees.opened.later agrees.opened.its))
+          let test : Answer → Bool = λ a. same_trx (trx_of run a) (record { session = session; first = agrees.opened.first }) && is_number key (wrote_at run a.session a.index) in
+          rw (from_first_append test agrees.opened.earlier agrees.opened.later (all_map (λ (a : Answer). same_trx (trx_of run a) (record { session = session; first = agrees.opened.first }) ≡ false) (λ a. test a ≡ false) agrees.opened.earlier (λ a e. rw e refl) agrees.opened.not_its))
+          (all_map (λ (a : Answer). trx_of run a ≡ record { session = session; first = agrees.opened.first }) (λ a. wrote_at run a.session a.index ≡ Some key → trx_of run a ≡ record { session = session; first = agrees.opened.first }) (from_first test agrees.opened.later) (λ a its key_is. its)
+          (all_from_first (λ (a : Answer). trx_of run a ≡ record { session = session; first = agrees.opened.first }) test agrees.opened.later agrees.opened.its))

@@ -13,10 +13,10 @@ use Rattle.mp_script.specs.declared.statements.SessionOn.{SessionOn}
 use Rattle.mp_script.specs.declared.statements.Script.{Script}
 use Rattle.mp_script.specs.declared.entries.Entry.{Entry}
 use Rattle.mp_script.specs.declared.entries.Entry.TheVariants.{Session, Statement}
-use Rattle.mp_script.specs.Text.{name_text, header_words, session_words, stmt_words, line_words, words_text, line_text, lines_text, script_text}
+use Rattle.mp_script.specs.Text.{name_text, header_line_words, session_words, stmt_words, stmt_line_words, words_text, line_text, lines_text, script_text}
 use Rattle.mp_script.specs.Words.{IsStmt, Kept, is_skipped, kept_from, kept_lines}
-use Rattle.mp_script.specs.Entries.{Said, start, with_entry, entry_words}
-use Rattle.mp_script.specs.Spelling.{AllFit, Fits, SpellsBy, Spells, IsSpelled}
+use Rattle.mp_script.specs.Entries.{Said, nothing_said, with_entry, entry_words}
+use Rattle.mp_script.specs.Spelling.{AllFit, EntryFits, SpellsBy, Spells, IsSpelled}
 use Rattle.mp_script.proofs.Splitting.{lacks, and-parts, both, split_more}
 use Rattle.mp_script.proofs.WordBytes.{plain, plain-decimal, plain-name, plain-stmt, words-of-text, text-is-one_line}
 use Rattle.mp_script.proofs.EntryLaws.{IsBounded, bounded-start, bounded-next}
@@ -67,7 +67,7 @@ lines-lack_end (words ∷ lines) h = both (line-lacks_end words (and-parts h).0)
 kept-text : (lines : List (List (List ℕ))) → list_all is_line lines ≡ true → words_in (kept_lines (lines_text (map words_text lines))) ≡ lines
 kept-text lines h = ap (λ pieces. words_in (kept_from 1 pieces)) (split-ended (map words_text lines) (lines-lack_end lines h)) ∙ kept-again 1 lines h
 
-header-is_line : (n : ℕ) → n < 2 ^ 64 → is_line (header_words n) ≡ true
+header-is_line : (n : ℕ) → n < 2 ^ 64 → is_line (header_line_words n) ≡ true
 header-is_line n h = both (both (plain-decimal n h) refl) refl
 
 session-is_line : (s : SessionOn) → s.session < 2 ^ 64 → s.primary < 2 ^ 64 → is_line (session_words s) ≡ true
@@ -83,7 +83,7 @@ begins session (Scan low most) = refl
 begins session Commit = refl
 begins session Rollback = refl
 
-statement-is_line : (line : Line) → line.session < 2 ^ 64 → IsStmt line.stmt → is_line (line_words line) ≡ true
+statement-is_line : (line : Line) → line.session < 2 ^ 64 → IsStmt line.stmt → is_line (stmt_line_words line) ≡ true
 statement-is_line line h w = both (both (plain-name line.session h) (plain-stmt line.stmt w)) (begins line.session line.stmt)
 
 short-decimal : (n : ℕ) → n < 2 ^ 32 → length (decimal n) ≤ 10
@@ -99,7 +99,7 @@ value-short value h = le-true _ _ (and-parts (and-parts h).0).1
 abbrev Short : List (List ℕ) → Type 0
 Short words = length (words_text words) ≤ 61
 
-header-short : (n : ℕ) → n < 2 ^ 32 → Short (header_words n)
+header-short : (n : ℕ) → n < 2 ^ 32 → Short (header_line_words n)
 header-short n h = omega (arith, short-decimal n h)
 
 session-short : (s : SessionOn) → s.session < 2 ^ 32 → s.primary < 2 ^ 32 → Short (session_words s)
@@ -115,7 +115,7 @@ stmt-short session (Scan low most) h w = omega (arith, short-decimal session h, 
 stmt-short session Commit h w = omega (arith, short-decimal session h, length-append {A = ℕ} (decimal session) (32 ∷ codes "commit"))
 stmt-short session Rollback h w = omega (arith, short-decimal session h, length-append {A = ℕ} (decimal session) (32 ∷ codes "rollback"))
 
-entry-is_line : (said : Said) (entry : Entry) → IsBounded said → Fits said entry → (is_line (entry_words entry) ≡ true) × Short (entry_words entry)
+entry-is_line : (said : Said) (entry : Entry) → IsBounded said → EntryFits said entry → (is_line (entry_words entry) ≡ true) × Short (entry_words entry)
 entry-is_line said (Session s) b h = (session-is_line s (omega (arith, h.session_high)) (omega (arith, h.primary_high, b.primaries)), session-short s (omega (arith, h.session_high)) (omega (arith, h.primary_high, b.primaries)))
 entry-is_line said (Statement line) b h =
     let low : line.session ≤ 64 = b.sessions line.session h.declared in
@@ -160,18 +160,18 @@ print-again text script t spelled =
     let lines : lines_in es ≡ ls = ap (λ s. s.lines) whole in
     let declared : AllDeclared p [] ss = subst (AllDeclared p []) sessions (sessions-fit p [] [] es h.fit) in
     let said_lines : AllSaid p ss [] ls = subst (λ x. AllSaid p x [] ls) sessions (subst (AllSaid p (sessions_in es) []) lines (lines-fit p [] [] es h.fit)) in
-    let fit : AllFit (start p) (canonical ss ls) = fit-canonical p [] ss ls declared said_lines in
-    let bounded : IsBounded (start p) = bounded-start p h.primaries_high in
-    let all : (list_all is_line (map entry_words (canonical ss ls)) ≡ true) × (length (lines_text (map words_text (map entry_words (canonical ss ls)))) ≤ 62 * length (canonical ss ls)) = entries-are_lines (start p) (canonical ss ls) bounded fit in
-    let text_is : text ≡ lines_text (map words_text (header_words p ∷ map entry_words (canonical ss ls))) = t ∙ ap (λ x. lines_text (words_text (header_words p) ∷ x)) (lines-canonical ss ls) in
+    let fit : AllFit (nothing_said p) (canonical ss ls) = fit-canonical p [] ss ls declared said_lines in
+    let bounded : IsBounded (nothing_said p) = bounded-start p h.primaries_high in
+    let all : (list_all is_line (map entry_words (canonical ss ls)) ≡ true) × (length (lines_text (map words_text (map entry_words (canonical ss ls)))) ≤ 62 * length (canonical ss ls)) = entries-are_lines (nothing_said p) (canonical ss ls) bounded fit in
+    let text_is : text ≡ lines_text (map words_text (header_line_words p ∷ map entry_words (canonical ss ls))) = t ∙ ap (λ x. lines_text (words_text (header_line_words p) ∷ x)) (lines-canonical ss ls) in
     let few : length (canonical ss ls) ≤ 10065 = omega (arith, length-canonical ss ls, sessions-within p ss declared, said-count p ss [] ls (omega arith) said_lines) in
     record {
-      size = subst (λ x. length x ≤ 1048576) (sym text_is) (sized (words_text (header_words p)) (lines_text (map words_text (map entry_words (canonical ss ls)))) (length (canonical ss ls)) (header-short p (omega (arith, h.primaries_high))) all.1 few);
+      size = subst (λ x. length x ≤ 1048576) (sym text_is) (sized (words_text (header_line_words p)) (lines_text (map words_text (map entry_words (canonical ss ls)))) (length (canonical ss ls)) (header-short p (omega (arith, h.primaries_high))) all.1 few);
       entries = canonical ss ls;
       spelled = record {
         primaries_low = h.primaries_low;
         primaries_high = h.primaries_high;
-        words = ap (λ x. words_in (kept_lines x)) text_is ∙ kept-text (header_words p ∷ map entry_words (canonical ss ls)) (both (header-is_line p (omega (arith, h.primaries_high))) all.0);
+        words = ap (λ x. words_in (kept_lines x)) text_is ∙ kept-text (header_line_words p ∷ map entry_words (canonical ss ls)) (both (header-is_line p (omega (arith, h.primaries_high))) all.0);
         fit = fit;
         whole = after-whole p [] [] (canonical ss ls) ∙ ap (λ x. said p x (lines_in (canonical ss ls))) (sessions_in-canonical ss ls) ∙ ap (said p ss) (lines_in-canonical ss ls);
       };

@@ -8,8 +8,8 @@ use Rattle.mp_model.specs.Values.{is_value}
 use Rattle.mp_script.specs.declared.statements.Stmt.{Stmt}
 use Rattle.mp_script.specs.declared.statements.Stmt.TheVariants.{Begin, Get, Put, Del, Copy, Scan, Commit, Rollback}
 use Rattle.mp_script.specs.Text.{stmt_words}
-use Rattle.mp_script.specs.Words.{number_of, bare_stmt, keyed, key_stmt, put_stmt, copy_stmt, scan_stmt, pair_stmt, stmt_of, IsStmt, bad_value, too_many}
-use Rattle.mp_script.proofs.Numbers.{number_of-decimal, number_of-Some}
+use Rattle.mp_script.specs.Words.{word_number, bare_stmt, keyed, key_stmt, put_stmt, copy_stmt, scan_stmt, pair_stmt, stmt_of, IsStmt, bad_value, too_many}
+use Rattle.mp_script.proofs.Numbers.{word_number-decimal, word_number-Some}
 
 chosen : {X : Type 0} (b : Bool) (x y : X) → b ≡ true → (if b then x else y) ≡ x
 chosen true x y h = refl
@@ -30,11 +30,11 @@ scan-said low most o p e f m = ap (λ k. scan_stmt k p) e ∙ ap (λ k. scan_stm
 -- the words of a statement say it
 pub stmt_of-stmt_words : (stmt : Stmt) → IsStmt stmt → stmt_of (stmt_words stmt) ≡ Ok stmt
 stmt_of-stmt_words Begin h = refl
-stmt_of-stmt_words (Get key) h = ap (keyed Get) (number_of-decimal key h)
-stmt_of-stmt_words (Put key value) h = put-said key value _ (number_of-decimal key h.0) h.1
-stmt_of-stmt_words (Del key) h = ap (keyed Del) (number_of-decimal key h)
-stmt_of-stmt_words (Copy from to) h = copy-said from to _ _ (number_of-decimal from h.0) (number_of-decimal to h.1)
-stmt_of-stmt_words (Scan low most) h = scan-said low most _ _ (number_of-decimal low h.0) (number_of-decimal most (omega (arith, h.1))) h.1
+stmt_of-stmt_words (Get key) h = ap (keyed Get) (word_number-decimal key h)
+stmt_of-stmt_words (Put key value) h = put-said key value _ (word_number-decimal key h.0) h.1
+stmt_of-stmt_words (Del key) h = ap (keyed Del) (word_number-decimal key h)
+stmt_of-stmt_words (Copy from to) h = copy-said from to _ _ (word_number-decimal from h.0) (word_number-decimal to h.1)
+stmt_of-stmt_words (Scan low most) h = scan-said low most _ _ (word_number-decimal low h.0) (word_number-decimal most (omega (arith, h.1))) h.1
 stmt_of-stmt_words Commit h = refl
 stmt_of-stmt_words Rollback h = refl
 
@@ -79,25 +79,25 @@ two_words e f = cc
 key-says : (verb word : List ℕ) (stmt : Stmt) → key_stmt verb word ≡ Ok stmt → Says (verb ∷ word ∷ []) stmt
 key-says verb word stmt h =
     elim (by_word verb (codes "get") _ _ _ h) [
-      | inl p ↦ get p.0 (keyed-says Get (number_of word) stmt p.1)
+      | inl p ↦ get p.0 (keyed-says Get (word_number word) stmt p.1)
       | inr h2 ↦ elim (by_word verb (codes "del") _ _ _ h2) [
-        | inl p ↦ del p.0 (keyed-says Del (number_of word) stmt p.1)
+        | inl p ↦ del p.0 (keyed-says Del (word_number word) stmt p.1)
         | inr h3 ↦ cc
       ]
     ]
   where
-    get : verb ≡ codes "get" → (key : ℕ) × ((number_of word ≡ Some key) × (Get key ≡ stmt)) → Says (verb ∷ word ∷ []) stmt
-    get e k = let n : (word ≡ decimal k.0) × (k.0 < 2 ^ 32) = number_of-Some word k.0 k.1.0 in
+    get : verb ≡ codes "get" → (key : ℕ) × ((word_number word ≡ Some key) × (Get key ≡ stmt)) → Says (verb ∷ word ∷ []) stmt
+    get e k = let n : (word ≡ decimal k.0) × (k.0 < 2 ^ 32) = word_number-Some word k.0 k.1.0 in
         subst (Says (verb ∷ word ∷ [])) k.1.1 (two_words e n.0, n.1)
 
-    del : verb ≡ codes "del" → (key : ℕ) × ((number_of word ≡ Some key) × (Del key ≡ stmt)) → Says (verb ∷ word ∷ []) stmt
-    del e k = let n : (word ≡ decimal k.0) × (k.0 < 2 ^ 32) = number_of-Some word k.0 k.1.0 in
+    del : verb ≡ codes "del" → (key : ℕ) × ((word_number word ≡ Some key) × (Del key ≡ stmt)) → Says (verb ∷ word ∷ []) stmt
+    del e k = let n : (word ≡ decimal k.0) × (k.0 < 2 ^ 32) = word_number-Some word k.0 k.1.0 in
         subst (Says (verb ∷ word ∷ [])) k.1.1 (two_words e n.0, n.1)
 
 three_words : {a b d x y z : List ℕ} → a ≡ x → b ≡ y → d ≡ z → a ∷ b ∷ d ∷ [] ≡ x ∷ y ∷ z ∷ []
 three_words e f g = cc
 
-put-says : (verb first second : List ℕ) (stmt : Stmt) → verb ≡ codes "put" → (o : Option ℕ) → o ≡ number_of first → put_stmt o second ≡ Ok stmt → Says (verb ∷ first ∷ second ∷ []) stmt
+put-says : (verb first second : List ℕ) (stmt : Stmt) → verb ≡ codes "put" → (o : Option ℕ) → o ≡ word_number first → put_stmt o second ≡ Ok stmt → Says (verb ∷ first ∷ second ∷ []) stmt
 put-says verb first second stmt e None k h = cc
 put-says verb first second stmt e (Some key) k h =
     by_value (is_value second) refl h
@@ -106,19 +106,19 @@ put-says verb first second stmt e (Some key) k h =
     put = Ok (Put key second)
 
     by_value : (b : Bool) → is_value second ≡ b → (if b then put else Err bad_value) ≡ Ok stmt → Says (verb ∷ first ∷ second ∷ []) stmt
-    by_value true v h = let n : (first ≡ decimal key) × (key < 2 ^ 32) = number_of-Some first key (sym k) in
+    by_value true v h = let n : (first ≡ decimal key) × (key < 2 ^ 32) = word_number-Some first key (sym k) in
         says_same _ (Put key second) stmt (three_words e n.0 refl, (n.1, v)) h
     by_value false v h = cc
 
-copy-says : (verb first second : List ℕ) (stmt : Stmt) → verb ≡ codes "copy" → (o p : Option ℕ) → o ≡ number_of first → p ≡ number_of second → copy_stmt o p ≡ Ok stmt → Says (verb ∷ first ∷ second ∷ []) stmt
+copy-says : (verb first second : List ℕ) (stmt : Stmt) → verb ≡ codes "copy" → (o p : Option ℕ) → o ≡ word_number first → p ≡ word_number second → copy_stmt o p ≡ Ok stmt → Says (verb ∷ first ∷ second ∷ []) stmt
 copy-says verb first second stmt e None p k l h = cc
 copy-says verb first second stmt e (Some from) None k l h = cc
 copy-says verb first second stmt e (Some from) (Some to) k l h =
-    let n : (first ≡ decimal from) × (from < 2 ^ 32) = number_of-Some first from (sym k) in
-    let m : (second ≡ decimal to) × (to < 2 ^ 32) = number_of-Some second to (sym l) in
+    let n : (first ≡ decimal from) × (from < 2 ^ 32) = word_number-Some first from (sym k) in
+    let m : (second ≡ decimal to) × (to < 2 ^ 32) = word_number-Some second to (sym l) in
     says_same _ (Copy from to) stmt (three_words e n.0 m.0, (n.1, m.1)) h
 
-scan-says : (verb first second : List ℕ) (stmt : Stmt) → verb ≡ codes "scan" → (o p : Option ℕ) → o ≡ number_of first → p ≡ number_of second → scan_stmt o p ≡ Ok stmt → Says (verb ∷ first ∷ second ∷ []) stmt
+scan-says : (verb first second : List ℕ) (stmt : Stmt) → verb ≡ codes "scan" → (o p : Option ℕ) → o ≡ word_number first → p ≡ word_number second → scan_stmt o p ≡ Ok stmt → Says (verb ∷ first ∷ second ∷ []) stmt
 scan-says verb first second stmt e None p k l h = cc
 scan-says verb first second stmt e (Some low) None k l h = cc
 scan-says verb first second stmt e (Some low) (Some most) k l h = by_most (nat_le most 100) (le_tested most) h
@@ -131,19 +131,19 @@ scan-says verb first second stmt e (Some low) (Some most) k l h = by_most (nat_l
 
     by_most : (b : Bool) → (b ≡ true → most ≤ 100) → (if b then scan else Err too_many) ≡ Ok stmt → Says (verb ∷ first ∷ second ∷ []) stmt
     by_most true small h =
-        let n : (first ≡ decimal low) × (low < 2 ^ 32) = number_of-Some first low (sym k) in
-        let m : (second ≡ decimal most) × (most < 2 ^ 32) = number_of-Some second most (sym l) in
+        let n : (first ≡ decimal low) × (low < 2 ^ 32) = word_number-Some first low (sym k) in
+        let m : (second ≡ decimal most) × (most < 2 ^ 32) = word_number-Some second most (sym l) in
         says_same _ (Scan low most) stmt (three_words e n.0 m.0, (n.1, small refl)) h
     by_most false small h = cc
 
 pair-says : (verb first second : List ℕ) (stmt : Stmt) → pair_stmt verb first second ≡ Ok stmt → Says (verb ∷ first ∷ second ∷ []) stmt
 pair-says verb first second stmt h =
     elim (by_word verb (codes "put") _ _ _ h) [
-      | inl p ↦ put-says verb first second stmt p.0 (number_of first) refl p.1
+      | inl p ↦ put-says verb first second stmt p.0 (word_number first) refl p.1
       | inr h2 ↦ elim (by_word verb (codes "copy") _ _ _ h2) [
-        | inl p ↦ copy-says verb first second stmt p.0 (number_of first) (number_of second) refl refl p.1
+        | inl p ↦ copy-says verb first second stmt p.0 (word_number first) (word_number second) refl refl p.1
         | inr h3 ↦ elim (by_word verb (codes "scan") _ _ _ h3) [
-          | inl p ↦ scan-says verb first second stmt p.0 (number_of first) (number_of second) refl refl p.1
+          | inl p ↦ scan-says verb first second stmt p.0 (word_number first) (word_number second) refl refl p.1
           | inr h4 ↦ cc
         ]
       ]

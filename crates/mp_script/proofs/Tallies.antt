@@ -12,7 +12,7 @@ use Rattle.std.proofs.lemmas.List.Folds.{list_all-append}
 use Rattle.mp_script.specs.declared.statements.Line.{Line}
 use Rattle.mp_script.specs.declared.statements.SessionOn.{SessionOn}
 use Rattle.mp_script.specs.declared.drafts.Tally.{Tally}
-use Rattle.mp_script.specs.Entries.{Said, is_declared, statements, open_after, open_behind, is_open}
+use Rattle.mp_script.specs.Entries.{Said, is_declared, statements, open_after, open_behind, has_open_trx}
 use Rattle.mp_script.specs.Drafts.{sessions_of, no_tally, tally_of}
 use Rattle.mp_script.proofs.Splitting.{and-parts, both}
 
@@ -76,12 +76,12 @@ other_session : (n m : ℕ) → n ≢ m → (n == m) ≡ false
 other_session n m h = grind (arith, nat_tests)
 
 abbrev pub tally : ℕ → Bool → Tally
-tally statements is_open = record { statements = statements; is_open = is_open }
+tally statements has_open_trx = record { statements = statements; has_open_trx = has_open_trx }
 
-by_session : (lines : List Line) (line : Line) (session : ℕ) (b : Bool) → (line.session == session) ≡ b → tally_of (lines ++ line ∷ []) session ≡ tally (statements lines session + cond b 1 0) (if b then open_after line.stmt else is_open lines session)
+by_session : (lines : List Line) (line : Line) (session : ℕ) (b : Bool) → (line.session == session) ≡ b → tally_of (lines ++ line ∷ []) session ≡ tally (statements lines session + cond b 1 0) (if b then open_after line.stmt else has_open_trx lines session)
 by_session lines line session b e =
-    ap (λ n. tally n (is_open (lines ++ line ∷ []) session)) (statements-push lines line session ∙ ap (λ t. statements lines session + cond t 1 0) e)
-    ∙ ap (λ o. tally (statements lines session + cond b 1 0) o) (open_behind-push false lines line session ∙ ap (λ t. if t then open_after line.stmt else is_open lines session) e)
+    ap (λ n. tally n (has_open_trx (lines ++ line ∷ []) session)) (statements-push lines line session ∙ ap (λ t. statements lines session + cond t 1 0) e)
+    ∙ ap (λ o. tally (statements lines session + cond b 1 0) o) (open_behind-push false lines line session ∙ ap (λ t. if t then open_after line.stmt else has_open_trx lines session) e)
 
 -- the tallies below one more statement
 pub tallies-push : (tallies : List Tally) (lines : List Line) (line : Line) (now : Bool) → length tallies ≡ 65 → ((session : ℕ) → session ≤ 64 → slice_index_or tallies session no_tally ≡ tally_of lines session) → line.session ≤ 64 → line.index ≡ statements lines line.session + 1 → now ≡ open_after line.stmt → (session : ℕ) → session ≤ 64 → slice_index_or (slice_set tallies line.session (tally line.index now)) session no_tally ≡ tally_of (lines ++ line ∷ []) session
@@ -101,7 +101,7 @@ tallies-push tallies lines line now whole h within index is session small = by_t
         let other : session ≢ line.session = differs line.session session e in
         get_or-set_other tallies line.session session (tally line.index now) no_tally other
         ∙ h session small
-        ∙ ap (λ n. tally n (is_open lines session)) (sym (add-zero (statements lines session)))
+        ∙ ap (λ n. tally n (has_open_trx lines session)) (sym (add-zero (statements lines session)))
         ∙ sym (by_session lines line session false e)
 
 -- one more session

@@ -9,7 +9,7 @@ use Rattle.mp_model.specs.Values.{is_value_byte}
 use Rattle.mp_script.specs.declared.statements.Stmt.{Stmt}
 use Rattle.mp_script.specs.declared.statements.Stmt.TheVariants.{Begin, Get, Put, Del, Copy, Scan, Commit, Rollback}
 use Rattle.mp_script.specs.declared.statements.Line.{Line}
-use Rattle.mp_script.specs.Text.{name_text, stmt_words, line_words, words_text}
+use Rattle.mp_script.specs.Text.{name_text, stmt_words, stmt_line_words, words_text}
 use Rattle.mp_script.specs.Words.{IsStmt}
 use Rattle.mp_script.proofs.Numbers.{numerals}
 use Rattle.mp_script.proofs.Splitting.{lacks, and-parts, both, list_all-implies, lacks-join, split_joined}
@@ -49,7 +49,7 @@ plain-stmt (Scan low most) h = both (plain-decimal low (omega (arith, h.0))) (bo
 plain-stmt Commit h = refl
 plain-stmt Rollback h = refl
 
-pub plain-line : (line : Line) → line.session < 2 ^ 64 → IsStmt line.stmt → list_all plain (line_words line) ≡ true
+pub plain-line : (line : Line) → line.session < 2 ^ 64 → IsStmt line.stmt → list_all plain (stmt_line_words line) ≡ true
 plain-line line s h = both (plain-name line.session s) (plain-stmt line.stmt h)
 
 -- so words written in a row are read as the same words, on one line

@@ -5,7 +5,7 @@ use Rattle.mp_script.specs.declared.statements.Line.{Line}
 use Rattle.mp_script.specs.declared.statements.SessionOn.{SessionOn}
 use Rattle.mp_script.specs.declared.drafts.Draft.{Draft}
 use Rattle.mp_script.specs.declared.drafts.Tally.{Tally}
-use Rattle.mp_script.specs.Entries.{Said, statements, is_open}
+use Rattle.mp_script.specs.Entries.{Said, statements, has_open_trx}
 
 -- the sessions that a map from sessions to primaries holds, in its order
 abbrev pub sessions_of : List (ℕ × ℕ) → List SessionOn
@@ -17,11 +17,11 @@ said_in draft = record { primaries = draft.primaries; sessions = sessions_of dra
 
 -- no statement, and no open transaction
 abbrev pub no_tally : Tally
-no_tally = record { statements = 0; is_open = false }
+no_tally = record { statements = 0; has_open_trx = false }
 
 -- a session's count of statements, and whether its transaction is open
 abbrev pub tally_of : List Line → ℕ → Tally
-tally_of lines session = record { statements = statements lines session; is_open = is_open lines session }
+tally_of lines session = record { statements = statements lines session; has_open_trx = has_open_trx lines session }
 
 -- the tallies are those of the statements, and no session is above 64
 pub record IsTallied (draft : Draft) : Type 0 where

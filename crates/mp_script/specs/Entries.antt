@@ -7,12 +7,12 @@ use Rattle.mp_script.specs.declared.statements.Line.{Line}
 use Rattle.mp_script.specs.declared.statements.SessionOn.{SessionOn}
 use Rattle.mp_script.specs.declared.entries.Entry.{Entry}
 use Rattle.mp_script.specs.declared.entries.Entry.TheVariants.{Session, Statement}
-use Rattle.mp_script.specs.Text.{session_words, line_words}
+use Rattle.mp_script.specs.Text.{session_words, stmt_line_words}
 
 -- the words of what a line says
 abbrev pub entry_words : Entry → List (List ℕ)
 entry_words (Session s) = session_words s
-entry_words (Statement line) = line_words line
+entry_words (Statement line) = stmt_line_words line
 
 -- what the lines above say: the number of primaries, the sessions and the statements
 pub record Said : Type 0 where
@@ -21,8 +21,8 @@ pub record Said : Type 0 where
   pub lines : List Line
 
 -- below the first line
-abbrev pub start : ℕ → Said
-start primaries = record { primaries = primaries; sessions = []; lines = [] }
+abbrev pub nothing_said : ℕ → Said
+nothing_said primaries = record { primaries = primaries; sessions = []; lines = [] }
 
 -- below one more line
 abbrev pub with_entry : Said → Entry → Said
@@ -59,5 +59,5 @@ open_behind open_now [] session = open_now
 open_behind open_now (line ∷ lines) session = open_behind (if line.session == session then open_after line.stmt else open_now) lines session
 
 -- whether a session's transaction is open
-abbrev pub is_open : List Line → ℕ → Bool
-is_open lines session = open_behind false lines session
+abbrev pub has_open_trx : List Line → ℕ → Bool
+has_open_trx lines session = open_behind false lines session

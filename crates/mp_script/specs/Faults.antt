@@ -6,8 +6,8 @@ use Rattle.mp_script.specs.declared.statements.Stmt.{Stmt}
 use Rattle.mp_script.specs.declared.statements.Stmt.TheVariants.{Begin, Get, Put, Del, Copy, Scan, Commit, Rollback}
 use Rattle.mp_script.specs.declared.entries.Entry.{Entry}
 use Rattle.mp_script.specs.declared.entries.Entry.TheVariants.{Session, Statement}
-use Rattle.mp_script.specs.Words.{Kept, kept_lines, name_digits, number_of, stmt_of, bad_header, unknown_word, bad_number, unknown_session, no_transaction, open_twice, too_many, too_long}
-use Rattle.mp_script.specs.Entries.{Said, start, with_entry, is_declared, statements, is_open}
+use Rattle.mp_script.specs.Words.{Kept, kept_lines, name_digits, word_number, stmt_of, bad_header, unknown_word, bad_number, unknown_session, no_transaction, open_twice, too_many, too_long}
+use Rattle.mp_script.specs.Entries.{Said, nothing_said, with_entry, is_declared, statements, has_open_trx}
 
 -- the number of primaries, 1 to 8
 abbrev pub primaries_of : Option ℕ → Result ℕ ℕ
@@ -15,11 +15,11 @@ primaries_of None = Err bad_number
 primaries_of (Some primaries) = if primaries == 0 then Err bad_number else if nat_le primaries 8 then Ok primaries else Err too_many
 
 -- the first kept line: two words of which the first is `primaries`, then the number
-abbrev pub header_of : List (List ℕ) → Result ℕ ℕ
-header_of [] = Err bad_header
-header_of (word ∷ []) = Err bad_header
-header_of (word ∷ number ∷ []) = if bytes_eq word (codes "primaries") then primaries_of (number_of number) else Err bad_header
-header_of (word ∷ number ∷ more ∷ rest) = Err bad_header
+abbrev pub primaries_in : List (List ℕ) → Result ℕ ℕ
+primaries_in [] = Err bad_header
+primaries_in (word ∷ []) = Err bad_header
+primaries_in (word ∷ number ∷ []) = if bytes_eq word (codes "primaries") then primaries_of (word_number number) else Err bad_header
+primaries_in (word ∷ number ∷ more ∷ rest) = Err bad_header
 
 -- a declared session's primary, 1 to those that there are; then the session mustn't be declared above
 abbrev pub on_primary : Said → ℕ → Option ℕ → Result Entry ℕ
@@ -41,7 +41,7 @@ new_session said (Some session) primary =
 -- a declared session's name, before its number
 abbrev pub declared_name : Said → Option (List ℕ) → List ℕ → Result Entry ℕ
 declared_name said None primary = Err unknown_word
-declared_name said (Some digits) primary = new_session said (number_of digits) (number_of primary)
+declared_name said (Some digits) primary = new_session said (word_number digits) (word_number primary)
 
 -- the words behind `session`: a name, `on` and a primary's number
 abbrev pub session_entry : Said → List (List ℕ) → Result Entry ℕ
@@ -70,10 +70,10 @@ misplaced open_now = if open_now then open_twice else no_transaction
 abbrev pub next_line : Said → ℕ → Result Stmt ℕ → Result Entry ℕ
 next_line said session (Err fault) = Err fault
 next_line said session (Ok stmt) =
-    if may_stand (is_open said.lines session) stmt then
+    if may_stand (has_open_trx said.lines session) stmt then
     (if nat_lt (length said.lines) 10000 then Ok (Statement (record { session = session; index = statements said.lines session + 1; stmt = stmt }))
     else Err too_many)
-    else Err (misplaced (is_open said.lines session))
+    else Err (misplaced (has_open_trx said.lines session))
 
 -- a statement's session must be declared above, before its other words are looked at
 abbrev pub in_session : Said → Option ℕ → List (List ℕ) → Result Entry ℕ
@@ -83,7 +83,7 @@ in_session said (Some session) words = if is_declared said.sessions session then
 -- a statement's first word is a name
 abbrev pub stmt_entry : Said → Option (List ℕ) → List (List ℕ) → Result Entry ℕ
 stmt_entry said None words = Err unknown_word
-stmt_entry said (Some digits) words = in_session said (number_of digits) words
+stmt_entry said (Some digits) words = in_session said (word_number digits) words
 
 -- what a line says below those above, or its first fault
 abbrev pub entry_of : Said → List (List ℕ) → Result Entry ℕ
@@ -108,7 +108,7 @@ said_below said (kept ∷ rest) = at_line kept.number (entry_of said kept.words)
 -- what all kept lines say: the first has the number of primaries
 abbrev pub said_by : List Kept → Result Said FaultAt
 said_by [] = Err (record { fault = bad_header; line = 1 })
-said_by (kept ∷ rest) = at_line kept.number (header_of kept.words) (λ primaries. said_below (start primaries) rest)
+said_by (kept ∷ rest) = at_line kept.number (primaries_in kept.words) (λ primaries. said_below (nothing_said primaries) rest)
 
 -- the number of the line of the byte behind the first so many
 abbrev pub line_behind : ℕ → List ℕ → ℕ
@@ -121,9 +121,9 @@ said_within most bytes =
     else Err (record { fault = too_long; line = line_behind most bytes })
 
 -- the most bytes of a script
-abbrev pub most_bytes : ℕ
-most_bytes = 1048576
+abbrev pub most_script_bytes : ℕ
+most_script_bytes = 1048576
 
 -- the first fault of bytes, where they have one
-abbrev pub first_fault : List ℕ → Option FaultAt
-first_fault bytes = result_err (said_within most_bytes bytes)
+abbrev pub script_fault : List ℕ → Option FaultAt
+script_fault bytes = result_err (said_within most_script_bytes bytes)

@@ -20,8 +20,8 @@ pub record Plain : Type 0 where
   pub own : List KeyWrite
 
 -- the rows that the session sees
-abbrev pub shown : Plain → List KeyValue
-shown plain = over plain.committed plain.own
+abbrev pub plain_rows : Plain → List KeyValue
+plain_rows plain = over plain.committed plain.own
 
 -- a commit of writes takes the next timestamp
 abbrev pub number_after : ℕ → List KeyWrite → ℕ
@@ -33,19 +33,19 @@ commit_reply number [] = CommittedNone
 commit_reply number (write ∷ writes) = Committed (number + 1)
 
 -- what stands after a statement
-abbrev pub after : Plain → Stmt → Plain
-after plain Commit = record { committed = shown plain; number = number_after plain.number plain.own; own = [] }
-after plain Rollback = record { committed = plain.committed; number = plain.number; own = [] }
-after plain stmt = record { committed = plain.committed; number = plain.number; own = plain.own ++ write_by (shown plain) (Some stmt) }
+abbrev pub plain_after : Plain → Stmt → Plain
+plain_after plain Commit = record { committed = plain_rows plain; number = number_after plain.number plain.own; own = [] }
+plain_after plain Rollback = record { committed = plain.committed; number = plain.number; own = [] }
+plain_after plain stmt = record { committed = plain.committed; number = plain.number; own = plain.own ++ write_by (plain_rows plain) (Some stmt) }
 
 -- the reply to a statement
 abbrev pub IsReplyTo : Plain → Stmt → Reply → Type 0
 IsReplyTo plain Begin reply = reply ≡ Began plain.number
-IsReplyTo plain (Get key) reply = reply ≡ Got (value_at key (shown plain))
+IsReplyTo plain (Get key) reply = reply ≡ Got (value_at key (plain_rows plain))
 IsReplyTo plain (Put key value) reply = reply ≡ Wrote verb.Put
 IsReplyTo plain (Del key) reply = reply ≡ Wrote verb.Del
 IsReplyTo plain (Copy from to) reply = reply ≡ Wrote verb.Copy
-IsReplyTo plain (Scan low most) reply = (rows : Listed KeyValue) × (reply ≡ Scanned rows) × (rows.items ≡ take most (filter (λ row. nat_le low row.key) (shown plain)))
+IsReplyTo plain (Scan low most) reply = (rows : Listed KeyValue) × (reply ≡ Scanned rows) × (rows.items ≡ take most (filter (λ row. nat_le low row.key) (plain_rows plain)))
 IsReplyTo plain Commit reply = reply ≡ commit_reply plain.number plain.own
 IsReplyTo plain Rollback reply = reply ≡ RolledBack
 
@@ -61,9 +61,9 @@ abbrev pub AreAnswersTo : Plain → List Line → List Answer → Type 0
 AreAnswersTo plain [] [] = Unit {0}
 AreAnswersTo plain [] (answer ∷ answers) = ⊥
 AreAnswersTo plain (line ∷ lines) [] = ⊥
-AreAnswersTo plain (line ∷ lines) (answer ∷ answers) = IsAnswerTo plain line answer × AreAnswersTo (after plain line.stmt) lines answers
+AreAnswersTo plain (line ∷ lines) (answer ∷ answers) = IsAnswerTo plain line answer × AreAnswersTo (plain_after plain line.stmt) lines answers
 
 -- the greatest timestamp after lines
 abbrev pub number_at_end : Plain → List Line → ℕ
 number_at_end plain [] = plain.number
-number_at_end plain (line ∷ lines) = number_at_end (after plain line.stmt) lines
+number_at_end plain (line ∷ lines) = number_at_end (plain_after plain line.stmt) lines

@@ -11,8 +11,8 @@ use Rattle.mp_script.specs.declared.plain.Session.{Session}
 use Rattle.mp_script.specs.Plain.{Plain}
 
 -- what stands at the start
-abbrev pub start : Opening → Plain
-start opening = record { committed = opening.rows.items; number = opening.base; own = [] }
+abbrev pub plain_start : Opening → Plain
+plain_start opening = record { committed = opening.rows.items; number = opening.base; own = [] }
 
 abbrev pub state_of : Session → Plain
 state_of session = record { committed = session.committed.items; number = session.number; own = session.own.items }
@@ -22,7 +22,7 @@ abbrev pub with_write : Plain → KeyWrite → Plain
 with_write plain write = record { committed = plain.committed; number = plain.number; own = plain.own ++ write ∷ [] }
 
 -- keys ascend, and the rows that are seen are the committed ones with the own writes over them
-pub record IsSound (session : Session) : Type 0 where
+pub record IsSoundSession (session : Session) : Type 0 where
   pub committed_ascend : KeysAscend session.committed.items
   pub seen_ascend : KeysAscend session.seen.items
   pub seen_is : session.seen.items ≡ over session.committed.items session.own.items

@@ -5,7 +5,7 @@ use Rattle.mp_script.specs.declared.reading.ScriptRefusal.TheVariants.{Fault, Me
 use Rattle.mp_script.specs.Faults.{FaultAt}
 
 -- the answer shows what is wanted, or is the fault that is found, or there was no memory
-abbrev pub Gives : {T U : Type 0} → (T → U) → Result U FaultAt → Result T ScriptRefusal → Type 0
-Gives shown wanted (Ok x) = wanted ≡ Ok (shown x)
-Gives shown wanted (Err (Fault fault line)) = wanted ≡ Err (record { fault = fault; line = line })
-Gives shown wanted (Err Memory) = Unit {0}
+abbrev pub GivesSaid : {T U : Type 0} → (T → U) → Result U FaultAt → Result T ScriptRefusal → Type 0
+GivesSaid shown wanted (Ok x) = wanted ≡ Ok (shown x)
+GivesSaid shown wanted (Err (Fault fault line)) = wanted ≡ Err (record { fault = fault; line = line })
+GivesSaid shown wanted (Err Memory) = Unit {0}

@@ -9,10 +9,10 @@ use Rattle.mp_script.specs.declared.entries.Entry.{Entry}
 use Rattle.mp_script.specs.declared.entries.Entry.TheVariants.{Session, Statement}
 use Rattle.mp_script.specs.declared.reading.ScriptRefusal.{ScriptRefusal}
 use Rattle.mp_script.specs.declared.reading.ScriptRefusal.TheVariants.{Fault, Memory}
-use Rattle.mp_script.specs.Text.{header_words}
+use Rattle.mp_script.specs.Text.{header_line_words}
 use Rattle.mp_script.specs.Words.{IsStmt, Kept, kept_lines}
-use Rattle.mp_script.specs.Entries.{Said, start, with_entry, said_after, entry_words, is_declared, statements, is_open}
-use Rattle.mp_script.specs.Faults.{FaultAt, first_fault}
+use Rattle.mp_script.specs.Entries.{Said, nothing_said, with_entry, said_after, entry_words, is_declared, statements, has_open_trx}
+use Rattle.mp_script.specs.Faults.{FaultAt, script_fault}
 
 -- a statement may stand where a transaction is open, or where none is
 abbrev pub MayStand : Bool → Stmt → Type 0
@@ -47,18 +47,18 @@ pub record MaySay (said : Said) (line : Line) : Type 0 where
   pub declared : is_declared said.sessions line.session ≡ true
   pub number : line.index ≡ statements said.lines line.session + 1
   pub within : IsStmt line.stmt
-  pub stands : MayStand (is_open said.lines line.session) line.stmt
+  pub stands : MayStand (has_open_trx said.lines line.session) line.stmt
   pub room : length said.lines < 10000
 
 -- a line may say this below those above
-abbrev pub Fits : Said → Entry → Type 0
-Fits said (Session s) = MayDeclare said s
-Fits said (Statement line) = MaySay said line
+abbrev pub EntryFits : Said → Entry → Type 0
+EntryFits said (Session s) = MayDeclare said s
+EntryFits said (Statement line) = MaySay said line
 
 -- each fits what stands above it
 abbrev pub AllFit : Said → List Entry → Type 0
 AllFit said [] = Unit {0}
-AllFit said (entry ∷ entries) = Fits said entry × AllFit (with_entry said entry) entries
+AllFit said (entry ∷ entries) = EntryFits said entry × AllFit (with_entry said entry) entries
 
 -- what a script says
 abbrev pub said_of : Script → Said
@@ -68,9 +68,9 @@ said_of script = record { primaries = script.primaries; sessions = script.sessio
 pub record SpellsBy (kept : List Kept) (script : Script) (entries : List Entry) : Type 0 where
   pub primaries_low : 1 ≤ script.primaries
   pub primaries_high : script.primaries ≤ 8
-  pub words : map (λ k. k.words) kept ≡ header_words script.primaries ∷ map entry_words entries
-  pub fit : AllFit (start script.primaries) entries
-  pub whole : said_after (start script.primaries) entries ≡ said_of script
+  pub words : map (λ k. k.words) kept ≡ header_line_words script.primaries ∷ map entry_words entries
+  pub fit : AllFit (nothing_said script.primaries) entries
+  pub whole : said_after (nothing_said script.primaries) entries ≡ said_of script
 
 -- the bytes spell the script: they aren't too many, and their kept lines are its header and entries
 pub record Spells (bytes : List ℕ) (script : Script) : Type 0 where
@@ -95,12 +95,12 @@ IsRead wanted (Err (Fault fault line)) = ⊥
 IsRead wanted (Err Memory) = Unit {0}
 
 -- the answer is that fault, or there was no memory
-abbrev pub IsRefused : FaultAt → Result Script ScriptRefusal → Type 0
-IsRefused found (Ok read) = ⊥
-IsRefused found (Err (Fault fault line)) = (found.fault ≡ fault) × (found.line ≡ line)
-IsRefused found (Err Memory) = Unit {0}
+abbrev pub IsScriptRefused : FaultAt → Result Script ScriptRefusal → Type 0
+IsScriptRefused found (Ok read) = ⊥
+IsScriptRefused found (Err (Fault fault line)) = (found.fault ≡ fault) × (found.line ≡ line)
+IsScriptRefused found (Err Memory) = Unit {0}
 
 -- a refusal names the first fault of the bytes, or the want of memory
-abbrev pub Explains : List ℕ → ScriptRefusal → Type 0
-Explains bytes (Fault fault line) = first_fault bytes ≡ Some (record { fault = fault; line = line })
-Explains bytes Memory = Unit {0}
+abbrev pub NamesScriptFault : List ℕ → ScriptRefusal → Type 0
+NamesScriptFault bytes (Fault fault line) = script_fault bytes ≡ Some (record { fault = fault; line = line })
+NamesScriptFault bytes Memory = Unit {0}

@@ -13,8 +13,8 @@ abbrev pub name_text : ℕ → List ℕ
 name_text session = 115 ∷ decimal session
 
 -- the words of the first line
-abbrev pub header_words : ℕ → List (List ℕ)
-header_words primaries = codes "primaries" ∷ decimal primaries ∷ []
+abbrev pub header_line_words : ℕ → List (List ℕ)
+header_line_words primaries = codes "primaries" ∷ decimal primaries ∷ []
 
 -- the words of a line that declares a session
 abbrev pub session_words : SessionOn → List (List ℕ)
@@ -32,8 +32,8 @@ stmt_words Commit = codes "commit" ∷ []
 stmt_words Rollback = codes "rollback" ∷ []
 
 -- the words of a statement's line
-abbrev pub line_words : Line → List (List ℕ)
-line_words line = name_text line.session ∷ stmt_words line.stmt
+abbrev pub stmt_line_words : Line → List (List ℕ)
+stmt_line_words line = name_text line.session ∷ stmt_words line.stmt
 
 -- words with a space between each two
 abbrev pub words_text : List (List ℕ) → List ℕ
@@ -45,7 +45,7 @@ spaced words = flat_map (λ word. 32 ∷ word) words
 
 -- a statement's line
 abbrev pub line_text : Line → List ℕ
-line_text line = words_text (line_words line)
+line_text line = words_text (stmt_line_words line)
 
 -- lines, each ended by the byte 10
 abbrev pub lines_text : List (List ℕ) → List ℕ
@@ -53,7 +53,7 @@ lines_text lines = flat_map (λ line. line ++ 10 ∷ []) lines
 
 -- the first line, the sessions, the statements
 abbrev pub script_lines : Script → List (List ℕ)
-script_lines script = words_text (header_words script.primaries) ∷ (map (λ s. words_text (session_words s)) script.sessions.items ++ map line_text script.lines.items)
+script_lines script = words_text (header_line_words script.primaries) ∷ (map (λ s. words_text (session_words s)) script.sessions.items ++ map line_text script.lines.items)
 
 -- the text of a script
 abbrev pub script_text : Script → List ℕ

@@ -1,31 +1,40 @@
 -- Which transaction a statement is of, and what the answers say of it.
-use Rattle.std.specs.Prelude.{ℕ, zero, suc, ◌+◌, ◌-◌, Bool, true, false, ◌==◌, ◌&&◌, ◌||◌, if◌then◌else◌, Option, Some, None}
+use Rattle.std.specs.Prelude.{List, [], ◌∷◌, ℕ, zero, suc, ◌+◌, ◌-◌, Bool, true, false, ◌==◌, ◌&&◌, ◌||◌, if◌then◌else◌, Option, Some, None}
 use Rattle.mp_model.specs.declared.ids.TrxName.{TrxName}
 use Rattle.mp_model.specs.declared.replies.Answer.{Answer}
 use Rattle.mp_model.specs.declared.replies.Reply.{Reply}
 use Rattle.mp_model.specs.declared.replies.Reply.TheVariants.{Began, Wrote, Committed, Unknown, Conflict, Held, Full}
 use Rattle.mp_model.specs.declared.replies.WriteVerb.{WriteVerb}
 use Rattle.mp_model.specs.declared.replies.WriteVerb.TheVariants as verb
+use Rattle.mp_script.specs.declared.statements.Line.{Line}
 use Rattle.mp_script.specs.declared.statements.Stmt.{Stmt}
 use Rattle.mp_script.specs.declared.statements.Stmt.TheVariants.{Begin, Put, Del, Copy}
-use Rattle.mp_script.specs.Told.{Told, stmt_at, reply_at}
+use Rattle.mp_script.specs.Execution.{Execution, stmt_in, stmt_at, reply_at}
 
 abbrev pub begins : Option Stmt → Bool
 begins (Some Begin) = true
 begins _ = false
 
 -- the number of the `begin` of a statement's transaction: the last one at or above it in its session
-abbrev pub begin_of : Told → ℕ → ℕ → ℕ
-begin_of told session zero = zero
-begin_of told session (suc before) = if begins (stmt_at told session (suc before)) then suc before else begin_of told session before
+abbrev pub begin_in : List Line → ℕ → ℕ → ℕ
+begin_in lines session zero = zero
+begin_in lines session (suc before) = if begins (stmt_in lines session (suc before)) then suc before else begin_in lines session before
 
 -- the transaction of a statement
-abbrev pub trx_at : Told → ℕ → ℕ → TrxName
-trx_at told session index = record { session = session; first = begin_of told session index }
+abbrev pub trx_in_lines : List Line → ℕ → ℕ → TrxName
+trx_in_lines lines session index = record { session = session; first = begin_in lines session index }
+
+abbrev pub trx_at : Execution → ℕ → ℕ → TrxName
+trx_at run session index = trx_in_lines run.lines session index
 
 -- the transaction of an answer's statement
-abbrev pub trx_of : Told → Answer → TrxName
-trx_of told answer = trx_at told answer.session answer.index
+abbrev pub trx_of : Execution → Answer → TrxName
+trx_of run answer = trx_at run answer.session answer.index
+
+-- how many lines stand above a statement in the script
+abbrev pub line_place : List Line → ℕ → ℕ → ℕ
+line_place [] session index = 0
+line_place (line ∷ lines) session index = if (line.session == session && line.index == index) then 0 else line_place lines session index + 1
 
 abbrev pub same_trx : TrxName → TrxName → Bool
 same_trx a b = a.session == b.session && a.first == b.first
@@ -36,19 +45,27 @@ view_in base (Some (Began view)) = view
 view_in base _ = base
 
 -- the view of a transaction
-abbrev pub view_of : Told → TrxName → ℕ
-view_of told trx = view_in told.opening.base (reply_at told trx.session trx.first)
+abbrev pub view_of : Execution → TrxName → ℕ
+view_of run trx = view_in run.opening.base (reply_at run trx.session trx.first)
+
+-- the view that a statement reads by: that of its transaction
+abbrev pub view_at : Execution → ℕ → ℕ → ℕ
+view_at run session index = view_of run (trx_at run session index)
+
+-- how many statements stand between a transaction's `begin` and one of its statements
+abbrev pub statements_before : TrxName → ℕ → ℕ
+statements_before trx index = index - trx.first - 1
 
 -- the timestamp that a commit was answered, also one of unknown end
-abbrev pub number_of : Reply → Option ℕ
-number_of (Committed number) = Some number
-number_of (Unknown number) = Some number
-number_of _ = None
+abbrev pub cts_of : Reply → Option ℕ
+cts_of (Committed number) = Some number
+cts_of (Unknown number) = Some number
+cts_of _ = None
 
 -- the timestamp of an acknowledged commit
-abbrev pub acknowledged_number : Reply → Option ℕ
-acknowledged_number (Committed number) = Some number
-acknowledged_number _ = None
+abbrev pub acknowledged_cts : Reply → Option ℕ
+acknowledged_cts (Committed number) = Some number
+acknowledged_cts _ = None
 
 abbrev pub is_number : ℕ → Option ℕ → Bool
 is_number number (Some other) = other == number
@@ -84,23 +101,23 @@ target_key (Some (Copy from to)) = Some to
 target_key _ = None
 
 -- the key that a statement wrote, where it was answered ok
-abbrev pub wrote_at : Told → ℕ → ℕ → Option ℕ
-wrote_at told session index = if is_wrote (reply_at told session index) then target_key (stmt_at told session index) else None
+abbrev pub wrote_at : Execution → ℕ → ℕ → Option ℕ
+wrote_at run session index = if is_wrote (reply_at run session index) then target_key (stmt_at run session index) else None
 
 -- among the first statements after its `begin`, a transaction wrote the key
-abbrev pub wrote_among : Told → TrxName → ℕ → ℕ → Bool
-wrote_among told trx zero key = false
-wrote_among told trx (suc count) key = wrote_among told trx count key || is_number key (wrote_at told trx.session (trx.first + suc count))
+abbrev pub wrote_among : Execution → TrxName → ℕ → ℕ → Bool
+wrote_among run trx zero key = false
+wrote_among run trx (suc count) key = wrote_among run trx count key || is_number key (wrote_at run trx.session (trx.first + suc count))
 
 -- before this statement, its transaction wrote the key
-abbrev pub wrote_before : Told → ℕ → ℕ → ℕ → Bool
-wrote_before told session index key = let trx = trx_at told session index in wrote_among told trx (index - trx.first - 1) key
+abbrev pub wrote_before : Execution → ℕ → ℕ → ℕ → Bool
+wrote_before run session index key = let trx = trx_at run session index in wrote_among run trx (statements_before trx index) key
 
 -- among the first statements after its `begin`, one of a transaction was refused
-abbrev pub refused_among : Told → TrxName → ℕ → Bool
-refused_among told trx zero = false
-refused_among told trx (suc count) = refused_among told trx count || is_refusal (reply_at told trx.session (trx.first + suc count))
+abbrev pub refused_among : Execution → TrxName → ℕ → Bool
+refused_among run trx zero = false
+refused_among run trx (suc count) = refused_among run trx count || is_refusal (reply_at run trx.session (trx.first + suc count))
 
 -- before this statement, one of its transaction was refused
-abbrev pub refused_before : Told → ℕ → ℕ → Bool
-refused_before told session index = let trx = trx_at told session index in refused_among told trx (index - trx.first - 1)
+abbrev pub refused_before : Execution → ℕ → ℕ → Bool
+refused_before run session index = let trx = trx_at run session index in refused_among run trx (statements_before trx index)

@@ -1,4 +1,4 @@
--- How lines and words are told apart, and what words mean: names, numbers, and statements behind their session's name.
+-- How lines and words are run apart, and what words mean: names, numbers, and statements behind their session's name.
 use Rattle.std.specs.Prelude.{◌+◌, ◌==◌, ◌<◌, ◌≤◌, ◌^◌, ◌&&◌, ◌||◌, not, nat_lt, nat_le, ℕ, length, List, [], ◌∷◌, Bool, false, Option, Some, None, Result, Ok, Err, codes, if◌then◌else◌, IsTrue, true}
 use Rattle.std.specs.Str.{bytes_eq}
 use Rattle.std.specs.List.{list_all, slice_split}
@@ -44,8 +44,8 @@ is_numeral [] = false
 is_numeral (first ∷ rest) = (not (first == 48) || length rest == 0) && list_all is_ascii_digit (first ∷ rest)
 
 -- the number that a word is: `0`, or digits that begin with 1 to 9, of at most 4294967295
-abbrev pub number_of : List ℕ → Option ℕ
-number_of word = if is_numeral word && nat_lt (digits_value 10 word) (2 ^ 32) then Some (digits_value 10 word) else None
+abbrev pub word_number : List ℕ → Option ℕ
+word_number word = if is_numeral word && nat_lt (digits_value 10 word) (2 ^ 32) then Some (digits_value 10 word) else None
 
 -- the faults, by their numbers
 abbrev pub bad_header : ℕ
@@ -91,8 +91,8 @@ keyed stmt None = Err bad_number
 -- a statement of a verb and a key
 abbrev pub key_stmt : List ℕ → List ℕ → Result Stmt ℕ
 key_stmt verb word =
-    if bytes_eq verb (codes "get") then keyed Get (number_of word)
-    else if bytes_eq verb (codes "del") then keyed Del (number_of word)
+    if bytes_eq verb (codes "get") then keyed Get (word_number word)
+    else if bytes_eq verb (codes "del") then keyed Del (word_number word)
     else Err unknown_word
 
 -- `put` with a key and a value: the key is looked at first
@@ -115,9 +115,9 @@ scan_stmt (Some low) (Some most) = if nat_le most 100 then Ok (Scan low most) el
 -- a statement of a verb and two words
 abbrev pub pair_stmt : List ℕ → List ℕ → List ℕ → Result Stmt ℕ
 pair_stmt verb first second =
-    if bytes_eq verb (codes "put") then put_stmt (number_of first) second
-    else if bytes_eq verb (codes "copy") then copy_stmt (number_of first) (number_of second)
-    else if bytes_eq verb (codes "scan") then scan_stmt (number_of first) (number_of second)
+    if bytes_eq verb (codes "put") then put_stmt (word_number first) second
+    else if bytes_eq verb (codes "copy") then copy_stmt (word_number first) (word_number second)
+    else if bytes_eq verb (codes "scan") then scan_stmt (word_number first) (word_number second)
     else Err unknown_word
 
 -- the statement that words say, or the first fault in them: the verb and its count of words, then numbers from left to

@@ -1,8 +1,8 @@
 //! What a script says so far, while it is read.
 
 ghost use Rattle.std.specs.Prelude.{◌≡◌, ◌≤◌, ℕ, length, slice_index_or, IfOk, OnOk, IfSome, Some, None, if◌then◌else◌};
-ghost use Rattle.mp_script.specs.Entries.{is_declared, open_after, start, with_entry};
-ghost use Rattle.mp_script.specs.Spelling.{Fits, MayDeclare, MaySay, said_of};
+ghost use Rattle.mp_script.specs.Entries.{is_declared, open_after, nothing_said, with_entry};
+ghost use Rattle.mp_script.specs.Spelling.{EntryFits, MayDeclare, MaySay, said_of};
 ghost use Rattle.mp_script.specs.Drafts.{said_in, sessions_of, no_tally, tally_of, IsTallied};
 
 use crate::entries::Entry;
@@ -15,7 +15,7 @@ use std::alloc::Global;
 #[derive(Clone, Copy, Debug, PartialEq, Eq)]
 pub struct Tally {
     pub statements: u32,
-    pub is_open: bool,
+    pub has_open_trx: bool,
 }
 
 /// What a script says so far: the declared sessions with their primaries, in the order of their lines, and the
@@ -31,7 +31,7 @@ pub struct Draft {
 impl Draft {
     /// Nothing is said below the first line.
     pub fn new(alloc: Global, primaries: u8) -> Self
-        ensures said { said_in result ≡ start primaries }
+        ensures said { said_in result ≡ nothing_said primaries }
         ensures tallied { IsTallied result }
     {
         Draft {
@@ -79,7 +79,7 @@ impl Draft {
     /// Adds what a line says.
     pub fn add(&mut self, entry: Entry) -> Result<(), Memory>
         requires tallied { IsTallied self.old }
-        requires fits { Fits (said_in self.old) entry }
+        requires fits { EntryFits (said_in self.old) entry }
         ensures said { OnOk result (said_in self.new ≡ with_entry (said_in self.old) entry) }
         ensures tallied { OnOk result (IsTallied self.new) }
     {
@@ -109,7 +109,7 @@ impl Draft {
         self.lines.push(line)?;
         self.tallies[line.session as usize] = Tally {
             statements: line.index,
-            is_open: open_after(&line.stmt),
+            has_open_trx: open_after(&line.stmt),
         };
         Ok(())
     }
@@ -133,7 +133,7 @@ fn no_tallies() -> [Tally; 65]
 {
     let none = Tally {
         statements: 0,
-        is_open: false,
+        has_open_trx: false,
     };
     [none; 65]
 }

@@ -2,7 +2,7 @@
 
 ghost use Rattle.std.specs.Prelude.{◌≡◌, ◌≤◌, map};
 ghost use Rattle.std.specs.Option.{option_map};
-ghost use Rattle.mp_script.specs.Faults.{primaries_of, header_of, on_primary, new_session, declared_name, session_entry, may_stand, misplaced, next_line, in_session, stmt_entry, entry_of};
+ghost use Rattle.mp_script.specs.Faults.{primaries_of, primaries_in, on_primary, new_session, declared_name, session_entry, may_stand, misplaced, next_line, in_session, stmt_entry, entry_of};
 ghost use Rattle.mp_script.specs.Drafts.{said_in, IsTallied};
 
 use crate::drafts::Draft;
@@ -30,7 +30,7 @@ pub enum Entry {
 
 /// The number of primaries in the words of the first line, or the line's first fault.
 pub fn read_header(words: &[&[u8]]) -> Result<u8, u8>
-    ensures { result ≡ header_of (map (λ w. w.now) words.now) }
+    ensures { result ≡ primaries_in (map (λ w. w.now) words.now) }
 {
     match words {
         [word, number] => {
@@ -166,8 +166,8 @@ fn next_line(draft: &Draft, session: u8, stmt: Result<Stmt, u8>) -> Result<Entry
         Err(fault) => return Err(fault),
     };
     let tally = draft.tally(session);
-    if !may_stand(tally.is_open, &stmt) {
-        return Err(misplaced(tally.is_open));
+    if !may_stand(tally.has_open_trx, &stmt) {
+        return Err(misplaced(tally.has_open_trx));
     }
     if draft.lines.len() >= MOST_STATEMENTS {
         return Err(TOO_MANY);
@@ -180,17 +180,21 @@ fn next_line(draft: &Draft, session: u8, stmt: Result<Stmt, u8>) -> Result<Entry
 }
 
 // Whether a statement may stand where a transaction is open, or where none is.
-fn may_stand(is_open: bool, stmt: &Stmt) -> bool
-    ensures { result ≡ may_stand is_open stmt.now }
+fn may_stand(has_open_trx: bool, stmt: &Stmt) -> bool
+    ensures { result ≡ may_stand has_open_trx stmt.now }
 {
     match stmt {
-        Stmt::Begin => !is_open,
-        _ => is_open,
+        Stmt::Begin => !has_open_trx,
+        _ => has_open_trx,
     }
 }
 
-fn misplaced(is_open: bool) -> u8
-    ensures { result ≡ misplaced is_open }
+fn misplaced(has_open_trx: bool) -> u8
+    ensures { result ≡ misplaced has_open_trx }
 {
-    if is_open { OPEN_TWICE } else { NO_TRANSACTION }
+    if has_open_trx {
+        OPEN_TWICE
+    } else {
+        NO_TRANSACTION
+    }
 }

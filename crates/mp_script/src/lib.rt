@@ -5,6 +5,7 @@
 mod drafts;
 mod entries;
 mod examples;
+mod laws;
 mod plain;
 mod printing;
 mod reading;
@@ -12,9 +13,15 @@ mod statements;
 #[cfg(test)]
 mod tests;
 mod words;
+mod worked;
 
 pub use examples::law_examples;
+pub use laws::law_one_script;
 pub use plain::answer_plainly;
-pub use printing::print;
+pub use printing::{print, push_numbered};
 pub use reading::{ScriptRefusal, parse};
 pub use statements::{Line, Lines, Script, SessionOn, Sessions, Stmt};
+pub use words::words_of;
+pub use worked::{
+    law_worked_downs, law_worked_keys, law_worked_parts, law_worked_replies, law_worked_views,
+};

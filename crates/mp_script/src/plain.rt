@@ -5,8 +5,8 @@ ghost use Rattle.mp_model.specs.Folded.{KeysAscend, over, value_at};
 ghost use Rattle.mp_script.specs.Legal.{Legal};
 ghost use Rattle.mp_script.specs.OneSession.{AreAlone};
 ghost use Rattle.mp_script.specs.Seen.{write_by};
-ghost use Rattle.mp_script.specs.PlainState.{start, state_of, with_write, IsSound, IsPlainTranscript};
-ghost use Rattle.mp_script.specs.Plain.{Plain, shown, after, IsReplyTo, IsAnswerTo, AreAnswersTo, number_at_end, commit_reply};
+ghost use Rattle.mp_script.specs.PlainState.{plain_start, state_of, with_write, IsSoundSession, IsPlainTranscript};
+ghost use Rattle.mp_script.specs.Plain.{Plain, plain_rows, plain_after, IsReplyTo, IsAnswerTo, AreAnswersTo, number_at_end, commit_reply};
 
 use crate::statements::{Line, Script, Stmt};
 use mp_model::{
@@ -15,7 +15,8 @@ use mp_model::{
 };
 use std::alloc::Global;
 
-/// The transcript of a script of one session on one primary, over what it began from, in mode Step.
+/// The transcript of a script of one session on one primary, over what it began from, in mode Step: no primary goes
+/// down, and there are at most as many commits as statements. `Memory` only for want of memory.
 pub fn answer_plainly(
     alloc: Global,
     script: &Script,
@@ -24,7 +25,10 @@ pub fn answer_plainly(
     requires keys { KeysAscend opening.now.rows.items }
     requires alone { AreAlone script.now.lines.items }
     requires room { opening.now.base + 10000 < 2 ^ 64 }
-    ensures { IfOk result (Legal script.now opening.now) }
+    ensures legal { IfOk result (Legal script.now opening.now) }
+    ensures mode { IfOk result (λ transcript. transcript.mode ≡ Mode.Step) }
+    ensures up { IfOk result (λ transcript. transcript.downs.items ≡ []) }
+    ensures few { IfOk result (λ transcript. transcript.commits ≤ length script.now.lines.items) }
 {
     let mut session = Session::open(alloc, opening)?;
     let answers = session.answer_all(alloc, script.lines.as_slice())?;
@@ -67,8 +71,8 @@ struct Session {
 impl Session {
     fn open(alloc: Global, opening: &Opening) -> Result<Session, Memory>
         requires { KeysAscend opening.now.rows.items }
-        ensures state { IfOk result (λ session. state_of session ≡ start opening.now) }
-        ensures sound { IfOk result IsSound }
+        ensures state { IfOk result (λ session. state_of session ≡ plain_start opening.now) }
+        ensures sound { IfOk result IsSoundSession }
     {
         let mut committed = Rows::new(alloc);
         committed.extend(opening.rows.as_slice())?;
@@ -84,7 +88,7 @@ impl Session {
 
     // The answers to these lines, one after another.
     fn answer_all(&mut self, alloc: Global, lines: &[Line]) -> Result<Answers, Memory>
-        requires sound { IsSound self.old }
+        requires sound { IsSoundSession self.old }
         requires room { self.old.number + length lines.now < 2 ^ 64 }
         ensures answers { IfOk result (λ answers. AreAnswersTo (state_of self.old) lines.now answers.items) }
         ensures number { OnOk result (self.new.number ≡ number_at_end (state_of self.old) lines.now) }
@@ -98,11 +102,11 @@ impl Session {
     }
 
     fn answer(&mut self, alloc: Global, line: &Line) -> Result<Answer, Memory>
-        requires sound { IsSound self.old }
+        requires sound { IsSoundSession self.old }
         requires room { self.old.number + 1 < 2 ^ 64 }
         ensures answer { IfOk result (IsAnswerTo (state_of self.old) line.now) }
-        ensures after { OnOk result (state_of self.new ≡ after (state_of self.old) line.now.stmt) }
-        ensures sound { OnOk result (IsSound self.new) }
+        ensures after { OnOk result (state_of self.new ≡ plain_after (state_of self.old) line.now.stmt) }
+        ensures sound { OnOk result (IsSoundSession self.new) }
     {
         let reply = self.reply(alloc, &line.stmt)?;
         Ok(Answer {
@@ -114,11 +118,11 @@ impl Session {
     }
 
     fn reply(&mut self, alloc: Global, stmt: &Stmt) -> Result<Reply, Memory>
-        requires sound { IsSound self.old }
+        requires sound { IsSoundSession self.old }
         requires room { self.old.number + 1 < 2 ^ 64 }
         ensures reply { IfOk result (IsReplyTo (state_of self.old) stmt.now) }
-        ensures after { OnOk result (state_of self.new ≡ after (state_of self.old) stmt.now) }
-        ensures sound { OnOk result (IsSound self.new) }
+        ensures after { OnOk result (state_of self.new ≡ plain_after (state_of self.old) stmt.now) }
+        ensures sound { OnOk result (IsSoundSession self.new) }
     {
         match *stmt {
             Stmt::Begin => Ok(Reply::Began(self.number)),
@@ -139,10 +143,10 @@ impl Session {
     }
 
     fn put(&mut self, write: &KeyWrite, verb: WriteVerb) -> Result<Reply, Memory>
-        requires { IsSound self.old }
+        requires { IsSoundSession self.old }
         ensures reply { IfOk result (λ reply. reply ≡ Reply.Wrote verb) }
         ensures after { OnOk result (state_of self.new ≡ with_write (state_of self.old) write.now) }
-        ensures sound { OnOk result (IsSound self.new) }
+        ensures sound { OnOk result (IsSoundSession self.new) }
     {
         self.own.push(*write)?;
         put_write(&mut self.seen, *write)?;
@@ -150,7 +154,7 @@ impl Session {
     }
 
     fn scan(&self, alloc: Global, low: u32, most: u32) -> Result<Reply, Memory>
-        requires { IsSound self.now }
+        requires { IsSoundSession self.now }
         ensures { IfOk result (IsReplyTo (state_of self.now) (Stmt.Scan low most)) }
     {
         let mut rows = Rows::new(alloc);
@@ -159,11 +163,11 @@ impl Session {
     }
 
     fn commit(&mut self) -> Result<Reply, Memory>
-        requires sound { IsSound self.old }
+        requires sound { IsSoundSession self.old }
         requires room { self.old.number + 1 < 2 ^ 64 }
         ensures reply { IfOk result (λ reply. reply ≡ commit_reply self.old.number self.old.own.items) }
-        ensures after { OnOk result (state_of self.new ≡ after (state_of self.old) Stmt.Commit) }
-        ensures sound { OnOk result (IsSound self.new) }
+        ensures after { OnOk result (state_of self.new ≡ plain_after (state_of self.old) Stmt.Commit) }
+        ensures sound { OnOk result (IsSoundSession self.new) }
     {
         put_writes(&mut self.committed, self.own.as_slice())?;
         if self.own.is_empty() {
@@ -175,10 +179,10 @@ impl Session {
     }
 
     fn roll_back(&mut self) -> Result<Reply, Memory>
-        requires { IsSound self.old }
+        requires { IsSoundSession self.old }
         ensures reply { IfOk result (λ reply. reply ≡ Reply.RolledBack) }
-        ensures after { OnOk result (state_of self.new ≡ after (state_of self.old) Stmt.Rollback) }
-        ensures sound { OnOk result (IsSound self.new) }
+        ensures after { OnOk result (state_of self.new ≡ plain_after (state_of self.old) Stmt.Rollback) }
+        ensures sound { OnOk result (IsSoundSession self.new) }
     {
         self.own.clear();
         self.seen.clear();

@@ -1,7 +1,7 @@
 //! Printing a script.
 
 ghost use Rattle.std.specs.Prelude.{◌≡◌, ◌++◌, ◌∷◌, [], IfOk, OnOk, map, decimal, codes};
-ghost use Rattle.mp_script.specs.Text.{header_words, session_words, stmt_words, name_text, words_text, line_text, lines_text, script_text, spaced};
+ghost use Rattle.mp_script.specs.Text.{header_line_words, session_words, stmt_words, name_text, words_text, line_text, lines_text, script_text, spaced};
 ghost use Rattle.mp_script.specs.Spelling.{IsSpelled, Spells};
 
 use crate::statements::{Line, Script, SessionOn, Stmt};
@@ -23,7 +23,7 @@ pub fn print(alloc: Global, script: &Script) -> Result<Text, Memory>
 fn push_script(text: &mut Text, script: &Script) -> Result<(), Memory>
     ensures { OnOk result (text.new.items ≡ text.old.items ++ script_text script.now) }
 {
-    push_number(text, b"primaries ", u32::from(script.primaries))?;
+    push_numbered(text, b"primaries ", u64::from(script.primaries))?;
     text.push(b'\n')?;
     push_sessions(text, script.sessions.as_slice())?;
     push_lines(text, script.lines.as_slice())
@@ -41,8 +41,8 @@ fn push_sessions(text: &mut Text, sessions: &[SessionOn]) -> Result<(), Memory>
 fn push_session(text: &mut Text, session: &SessionOn) -> Result<(), Memory>
     ensures { OnOk result (text.new.items ≡ text.old.items ++ (words_text (session_words session.now) ++ 10 ∷ [])) }
 {
-    push_number(text, b"session s", u32::from(session.session))?;
-    push_number(text, b" on ", u32::from(session.primary))?;
+    push_numbered(text, b"session s", u64::from(session.session))?;
+    push_numbered(text, b" on ", u64::from(session.primary))?;
     text.push(b'\n')
 }
 
@@ -58,7 +58,7 @@ fn push_lines(text: &mut Text, lines: &[Line]) -> Result<(), Memory>
 fn push_line(text: &mut Text, line: &Line) -> Result<(), Memory>
     ensures { OnOk result (text.new.items ≡ text.old.items ++ (line_text line.now ++ 10 ∷ [])) }
 {
-    push_number(text, b"s", u32::from(line.session))?;
+    push_numbered(text, b"s", u64::from(line.session))?;
     push_stmt(text, &line.stmt)?;
     text.push(b'\n')
 }
@@ -71,10 +71,10 @@ fn push_stmt(text: &mut Text, stmt: &Stmt) -> Result<(), Memory>
         Stmt::Begin => text.extend(b" begin"),
         Stmt::Commit => text.extend(b" commit"),
         Stmt::Rollback => text.extend(b" rollback"),
-        Stmt::Get { key } => push_number(text, b" get ", *key),
-        Stmt::Del { key } => push_number(text, b" del ", *key),
+        Stmt::Get { key } => push_numbered(text, b" get ", u64::from(*key)),
+        Stmt::Del { key } => push_numbered(text, b" del ", u64::from(*key)),
         Stmt::Put { key, value } => {
-            push_number(text, b" put ", *key)?;
+            push_numbered(text, b" put ", u64::from(*key))?;
             push_word(text, value.as_slice())
         }
         Stmt::Copy { from, to } => push_numbers(text, b" copy ", *from, *to),
@@ -90,8 +90,8 @@ fn push_word(text: &mut Text, word: &[u8]) -> Result<(), Memory>
     text.extend(word)
 }
 
-// Adds bytes and a number.
-fn push_number(text: &mut Text, bytes: &[u8], number: u32) -> Result<(), Memory>
+/// Adds bytes and then a number.
+pub fn push_numbered(text: &mut Text, bytes: &[u8], number: u64) -> Result<(), Memory>
     ensures { OnOk result (text.new.items ≡ text.old.items ++ (bytes.now ++ decimal number)) }
 {
     text.extend(bytes)?;
@@ -102,6 +102,6 @@ fn push_number(text: &mut Text, bytes: &[u8], number: u32) -> Result<(), Memory>
 fn push_numbers(text: &mut Text, bytes: &[u8], first: u32, second: u32) -> Result<(), Memory>
     ensures { OnOk result (text.new.items ≡ text.old.items ++ (bytes.now ++ (decimal first ++ 32 ∷ decimal second))) }
 {
-    push_number(text, bytes, first)?;
-    push_number(text, b" ", second)
+    push_numbered(text, bytes, u64::from(first))?;
+    push_numbered(text, b" ", u64::from(second))
 }

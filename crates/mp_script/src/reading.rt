@@ -3,11 +3,11 @@
 ghost use Rattle.std.specs.Prelude.{◌≡◌, ◌==◌, ◌+◌, ◌<◌, ◌≤◌, ◌^◌, count_by, IfOk, IfErr, OnOk, Some, map, length, Ok};
 ghost use Rattle.std.specs.List.{slice_split};
 ghost use Rattle.mp_script.specs.Words.{kept_from, words_of};
-ghost use Rattle.mp_script.specs.Entries.{start, with_entry};
-ghost use Rattle.mp_script.specs.Faults.{FaultAt, at_line, header_of, entry_of, said_below, said_by, said_within, most_bytes, first_fault};
-ghost use Rattle.mp_script.specs.Spelling.{Spells, IsRead, IsRefused, Explains, said_of};
+ghost use Rattle.mp_script.specs.Entries.{nothing_said, with_entry};
+ghost use Rattle.mp_script.specs.Faults.{FaultAt, at_line, primaries_in, entry_of, said_below, said_by, said_within, most_script_bytes, script_fault};
+ghost use Rattle.mp_script.specs.Spelling.{Spells, IsRead, IsScriptRefused, NamesScriptFault, said_of};
 ghost use Rattle.mp_script.specs.Drafts.{said_in, IsTallied};
-ghost use Rattle.mp_script.specs.Readings.{Gives};
+ghost use Rattle.mp_script.specs.Readings.{GivesSaid};
 
 use crate::drafts::Draft;
 use crate::entries::{read_entry, read_header};
@@ -44,8 +44,8 @@ impl From<Memory> for ScriptRefusal {
 pub fn parse(alloc: Global, bytes: &[u8]) -> Result<Script, ScriptRefusal>
     ensures found { IfOk result (Spells bytes.now) }
     ensures only { (script : Script) → Spells bytes.now script → IsRead script result }
-    ensures fault { IfErr result (Explains bytes.now) }
-    ensures faulty { (found : FaultAt) → first_fault bytes.now ≡ Some found → IsRefused found result }
+    ensures fault { IfErr result (NamesScriptFault bytes.now) }
+    ensures faulty { (found : FaultAt) → script_fault bytes.now ≡ Some found → IsScriptRefused found result }
 {
     read_within(alloc, MOST_BYTES, bytes)
 }
@@ -53,7 +53,7 @@ pub fn parse(alloc: Global, bytes: &[u8]) -> Result<Script, ScriptRefusal>
 // What bytes say, of at most so many.
 fn read_within(alloc: Global, most: usize, bytes: &[u8]) -> Result<Script, ScriptRefusal>
     requires { most < 2 ^ 30 }
-    ensures { Gives said_of (said_within most bytes.now) result }
+    ensures { GivesSaid said_of (said_within most bytes.now) result }
 {
     if bytes.len() > most {
         return Err(ScriptRefusal::Fault {
@@ -83,7 +83,7 @@ fn lines_of<'a>(alloc: Global, bytes: &'a [u8]) -> Result<Vec<&'a [u8]>, Memory>
 // What these lines say, of which the first kept one has the number of primaries.
 fn read_script(alloc: Global, lines: &[&[u8]]) -> Result<Draft, ScriptRefusal>
     requires { length lines.now < 2 ^ 31 }
-    ensures { Gives said_in (said_by (kept_from 1 (map (λ l. l.now) lines.now))) result }
+    ensures { GivesSaid said_in (said_by (kept_from 1 (map (λ l. l.now) lines.now))) result }
 {
     for (i, line) in lines.iter().enumerate() {
         if !is_skipped(line) {
@@ -99,7 +99,7 @@ fn read_script(alloc: Global, lines: &[&[u8]]) -> Result<Draft, ScriptRefusal>
 
 // The number of primaries that the line of that number has.
 fn header_at(alloc: Global, number: u32, line: &[u8]) -> Result<u8, ScriptRefusal>
-    ensures { Gives (λ n. n) (at_line number (header_of (words_of line.now)) (λ n. Ok n)) result }
+    ensures { GivesSaid (λ n. n) (at_line number (primaries_in (words_of line.now)) (λ n. Ok n)) result }
 {
     let words = words_of(alloc, line)?;
     match read_header(&words) {
@@ -119,7 +119,7 @@ fn read_below(
     lines: &[&[u8]],
 ) -> Result<Draft, ScriptRefusal>
     requires { above + length lines.now < 2 ^ 31 }
-    ensures { Gives said_in (said_below (start primaries) (kept_from (above + 2) (map (λ l. l.now) lines.now))) result }
+    ensures { GivesSaid said_in (said_below (nothing_said primaries) (kept_from (above + 2) (map (λ l. l.now) lines.now))) result }
 {
     let mut draft = Draft::new(alloc, primaries);
     for (i, line) in lines.iter().enumerate() {
@@ -138,7 +138,7 @@ fn read_line(
     line: &[u8],
 ) -> Result<(), ScriptRefusal>
     requires { IsTallied draft.old }
-    ensures said { Gives (λ _. said_in draft.new) (at_line number (entry_of (said_in draft.old) (words_of line.now)) (λ e. Ok (with_entry (said_in draft.old) e))) result }
+    ensures said { GivesSaid (λ _. said_in draft.new) (at_line number (entry_of (said_in draft.old) (words_of line.now)) (λ e. Ok (with_entry (said_in draft.old) e))) result }
     ensures tallied { OnOk result (IsTallied draft.new) }
 {
     let words = words_of(alloc, line)?;

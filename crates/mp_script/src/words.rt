@@ -4,7 +4,7 @@ ghost use Rattle.std.specs.Prelude.{◌≡◌, ◌==◌, IfOk, map};
 ghost use Rattle.std.specs.List.{list_all};
 ghost use Rattle.std.specs.Option.{option_map};
 ghost use Rattle.std.specs.Char.{is_ascii_digit};
-ghost use Rattle.mp_script.specs.Words.{is_numeral, number_of, bare_stmt, key_stmt, put_stmt, copy_stmt, scan_stmt, pair_stmt, stmt_of};
+ghost use Rattle.mp_script.specs.Words.{is_numeral, word_number, bare_stmt, key_stmt, put_stmt, copy_stmt, scan_stmt, pair_stmt, stmt_of};
 ghost use Rattle.mp_script.specs.Words.{words_of, is_skipped, name_digits};
 
 use crate::statements::Stmt;
@@ -65,7 +65,7 @@ pub fn name_digits(word: &[u8]) -> Option<&[u8]>
 
 /// The number that a word is: `0`, or digits that begin with 1 to 9, of at most 4294967295.
 pub fn read_number(word: &[u8]) -> Option<u32>
-    ensures { result ≡ number_of word.now }
+    ensures { result ≡ word_number word.now }
 {
     if !is_numeral(word) {
         return None;

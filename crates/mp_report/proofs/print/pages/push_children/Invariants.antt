@@ -1,0 +1,8 @@
+-- So far, the text has the first of them.
+use Rattle.std.proofs.Common.{◌≡◌, ◌++◌, map, take}
+use Rattle.mp_report.specs.Lines.{text_of_lines}
+use Rattle.mp_report.specs.Pages.{child_words}
+use Rattle.mp_report.proofs.print.pages.push_children.Given as goal
+
+abbrev pub invariant-loop-i : goal.invariant-loop-i
+invariant-loop-i l = l.text.items ≡ l.initial.text.items ++ text_of_lines (map child_words (take l.i l.page.children))

@@ -1,8 +1,0 @@
--- So far, the text has the first of them.
-use Rattle.std.proofs.Common.{◌≡◌, ◌++◌, map, take}
-use Rattle.mp_report.specs.Lines.{text_of}
-use Rattle.mp_report.specs.Pages.{row_words}
-use Rattle.mp_report.proofs.records.push_row_lines.Given as goal
-
-abbrev pub invariant-loop-row : goal.invariant-loop-row
-invariant-loop-row l = l.text.items ≡ l.initial.text.items ++ text_of (map row_words (take l.row-index l.rows))
