@@ -1,7 +1,8 @@
 mod Bytes
-mod Reading
+mod Completes
+mod NamedOnce
 mod OneWord
-mod PrintedLogs
+mod PrintedLegal
+mod Reading
 mod Refused
 mod SaidByCommands
-mod StillThere

@@ -1,14 +1,15 @@
 -- What the bytes that were read come to is what the call says.
 use Rattle.std.proofs.Common.{ℕ, ◌≤◌, List, length, Option, Some, None, ap, ◌∙◌, length-take, arith}
 use Rattle.std.proofs.lemmas.List.{take_all, drop_all}
-use Rattle.mp_outside.specs.Sources.{Reads}
+use Rattle.mp_outside.specs.Sources.{ReadsUpTo}
 use Rattle.mp_app.specs.declared.status.Status.{Status}
 use Rattle.mp_app.specs.declared.status.Status.TheVariants.{Done, Usage, Script as BadScript, Store, Stopped, Source, Sink, Disk, Memory}
 use Rattle.mp_app.specs.Calls.{SourceUse, ReadToItsEnd, ReadUpToTheBound}
-use Rattle.mp_app.specs.Outcomes.{StepSays, BytesSay}
+use Rattle.mp_app.specs.Answered.{BytesSay}
+use Rattle.mp_app.specs.Outcomes.{StepSays}
 
 -- fewer bytes than were asked for are all
-pub all_read : (left still_left : Option (List ℕ)) (bytes : List ℕ) → Reads 1048577 left still_left bytes → length bytes ≤ 1048576 → ReadToItsEnd left still_left bytes
+pub all_read : (left still_left : Option (List ℕ)) (bytes : List ℕ) → ReadsUpTo 1048577 left still_left bytes → length bytes ≤ 1048576 → ReadToItsEnd left still_left bytes
 all_read None still_left bytes reads few = tt
 all_read (Some input) None bytes reads few = absurd reads
 all_read (Some input) (Some rest) bytes reads few =
@@ -16,13 +17,13 @@ all_read (Some input) (Some rest) bytes reads few =
     (reads.0 ∙ take_all 1048577 input size, ap Some (reads.1 ∙ drop_all 1048577 input size))
 
 -- what was read is what was left, up to the bound
-pub bound_read : (left still_left : Option (List ℕ)) (bytes : List ℕ) → Reads 1048577 left still_left bytes → ReadUpToTheBound left bytes
+pub bound_read : (left still_left : Option (List ℕ)) (bytes : List ℕ) → ReadsUpTo 1048577 left still_left bytes → ReadUpToTheBound left bytes
 bound_read None still_left bytes reads = tt
 bound_read (Some input) None bytes reads = absurd reads
 bound_read (Some input) (Some rest) bytes reads = reads.0
 
 -- the status and the text go with the source
-pub says_from_bytes : (source : SourceUse) (bytes : List ℕ) (status : Status) (text : List ℕ) → Reads 1048577 source.left source.still_left bytes → BytesSay bytes status text → StepSays source status text
+pub says_from_bytes : (source : SourceUse) (bytes : List ℕ) (status : Status) (text : List ℕ) → ReadsUpTo 1048577 source.left source.still_left bytes → BytesSay bytes status text → StepSays source status text
 says_from_bytes source bytes Done text reads says = record { bytes = bytes; script = says.0; read = all_read source.left source.still_left bytes reads says.1.size; spelled = says.1; plain = says.2; answered = says.3 }
 says_from_bytes source bytes Usage text reads says = absurd says
 says_from_bytes source bytes BadScript text reads says = record { bytes = bytes; read = bound_read source.left source.still_left bytes reads; refused = says }

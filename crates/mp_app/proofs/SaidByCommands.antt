@@ -1,5 +1,8 @@
 -- What a command says is what the call says whose words name it.
-use Rattle.std.proofs.Common.{◌≡◌, ◌∙◌, ℕ, List, [], ◌∷◌, Option, inl, inr, Err, refl, sym, ap, subst, arith, codes}
+use Rattle.std.proofs.Common.{◌≡◌, ◌∙◌, ℕ, List, Option, inl, inr, Err, sym, subst}
+use Rattle.mp_outside.specs.declared.disks.Disk.{Ghosts}
+use Rattle.mp_files.specs.declared.disks.Disks.{Disks}
+use Rattle.mp_commands.specs.Fresh.{Made}
 use Rattle.mp_app.specs.declared.commands.Command.{Command}
 use Rattle.mp_app.specs.declared.commands.Command.TheVariants.{Session, Plain}
 use Rattle.mp_app.specs.declared.commands.PlainCommand.{PlainCommand}
@@ -11,73 +14,67 @@ use Rattle.mp_app.specs.declared.commands.WordsRefusal.TheVariants.{Usage, Memor
 use Rattle.mp_app.specs.declared.output.Output.{Output}
 use Rattle.mp_app.specs.declared.status.Status.{Status}
 use Rattle.mp_app.specs.declared.status.Status.TheVariants.{Done, Usage as UsageStatus, Sink, Memory as NoMemory}
-use Rattle.mp_app.specs.Calls.{Call}
-use Rattle.mp_app.specs.Commands.{Names, Reads}
-use Rattle.mp_app.specs.Outcomes.{StepSays, CommandSays, Says, WritesFront}
-use Rattle.mp_app.specs.Printed.{text_of, SaysWordsRefusal}
+use Rattle.mp_app.specs.Calls.{SourceUse}
+use Rattle.mp_app.specs.Commands.{Names, ReadsWords}
+use Rattle.mp_app.specs.Outcomes.{StepSays, InitSays, CommandSays, Says, WritesFront}
+use Rattle.mp_app.specs.Printed.{text_of, PrintsWordsRefusal}
 use Rattle.mp_app.specs.Texts.{no_memory_text}
 
-pub session_said : (command : SessionCommand) (call : Call) (status : Status) (text : List ℕ) → StepSays call.source status text → CommandSays (Session command) call status text
-session_said Step call status text says = says
-
-pub front_said : (words : List (List ℕ)) (call : Call) (command : Command) (before after : Option (List ℕ)) → Names words command → WritesFront (CommandSays command call) before after → WritesFront (Says words call) before after
-front_said words call command before after names front = record { status = front.status; text = front.text; said = inr (command, names, front.said); written = front.written }
-
-memory_said : (command : Command) (call : Call) (text : List ℕ) → text ≡ no_memory_text → CommandSays command call NoMemory text
-memory_said (Session Step) call text is = is
-memory_said (Plain Init) call text is = is
-memory_said (Plain Dump) call text is = is
-memory_said (Plain Logs) call text is = is
-
-pub refusal_said : (words : List (List ℕ)) (call : Call) (refusal : WordsRefusal) (output : Output) → Reads words (Err refusal) → SaysWordsRefusal refusal output → Says words call output.status (text_of output.printed)
-refusal_said words call Usage output none says = inl (none, says.0, says.1)
-refusal_said words call Memory output read says = rw (says.0) (inr (read.0, read.1, memory_said read.0 call (text_of output.printed) says.1))
-
--- no command ends with the sink's status before its text is written
-sink_said : (command : Command) (call : Call) (text : List ℕ) → CommandSays command call Sink text → ⊥
-sink_said (Session Step) call text says = says
-sink_said (Plain Init) call text says = says
-sink_said (Plain Dump) call text says = says
-sink_said (Plain Logs) call text says = says
-
-pub never_sink : (command : Command) (call : Call) (status : Status) (text : List ℕ) → CommandSays command call status text → status ≡ Sink → ⊥
-never_sink command call status text says is = sink_said command call text (subst (λ s. CommandSays command call s text) is says)
-
--- the words of one command are no other's
-letter : List (List ℕ) → ℕ
-letter [] = 0
-letter ([] ∷ words) = 0
-letter ((c ∷ cs) ∷ words) = c
-
-pub session_not_init : (words : List (List ℕ)) (command : SessionCommand) → Names words (Session command) → Names words (Plain Init) → {P : Type 0} → P
-unfolding letter
-session_not_init words Step is init =
-    let same : codes "step" ∷ [] ≡ codes "init" ∷ [] = sym is ∙ init in
-    let bad : 115 ≡ 105 = ap letter {x = codes "step" ∷ []} {y = codes "init" ∷ []} same in absurd (omega (arith, bad))
-
-pub init_named : (words : List (List ℕ)) (command : PlainCommand) → Names words (Plain command) → Names words (Plain Init) → command ≡ Init
-unfolding letter
-init_named words Init is init = refl
-init_named words Dump is init =
-    let same : codes "dump" ∷ [] ≡ codes "init" ∷ [] = sym is ∙ init in
-    let bad : 100 ≡ 105 = ap letter {x = codes "dump" ∷ []} {y = codes "init" ∷ []} same in absurd (omega (arith, bad))
-init_named words Logs is init =
-    let same : codes "logs" ∷ [] ≡ codes "init" ∷ [] = sym is ∙ init in
-    let bad : 108 ≡ 105 = ap letter {x = codes "logs" ∷ []} {y = codes "init" ∷ []} same in absurd (omega (arith, bad))
-
--- words that weren't read are never done
-no_usage : UsageStatus ≡ Done → {P : Type 0} → P
-no_usage e = absurd (cc)
-
-no_memory : NoMemory ≡ Done → {P : Type 0} → P
-no_memory e = absurd (cc)
-
-pub refusal_not_done : (refusal : WordsRefusal) (output : Output) → SaysWordsRefusal refusal output → output.status ≡ Done → {P : Type 0} → P
-refusal_not_done Usage output says done = no_usage (sym says.0 ∙ done)
-refusal_not_done Memory output says done = no_memory (sym says.0 ∙ done)
-
-pub done_no_sink : (status : Status) → status ≡ Done → status ≡ Sink → ⊥
-done_no_sink status done sink = no_sink (sym done ∙ sink)
+no_done : {s : Status} → s ≡ Done → s ≡ Sink → ⊥
+no_done {s} done sink = differ (sym done ∙ sink)
   where
-    no_sink : Done ≡ Sink → ⊥
-    no_sink e = absurd (cc)
+    differ : Done ≡ Sink → ⊥
+    differ e = cc
+
+-- a call that is done has a sink that didn't fail
+pub done_no_sink : (status : Status) → status ≡ Done → status ≡ Sink → ⊥
+done_no_sink status done sink = no_done done sink
+
+module _ {D : Type 0} (g : Ghosts D) where
+  pub session_said : (command : SessionCommand) (source : SourceUse) (old new : Disks D) (status : Status) (text : List ℕ)
+      → StepSays source status text → CommandSays g (Session command) source old new status text
+  session_said Step source old new status text says = says
+
+  pub front_said : (words : List (List ℕ)) (source : SourceUse) (old new : Disks D) (command : Command) (before after : Option (List ℕ))
+      → Names words command → WritesFront (CommandSays g command source old new) before after → WritesFront (Says g words source old new) before after
+  front_said words source old new command before after names front = record { status = front.status; text = front.text; said = inr (command, names, front.said); written = front.written }
+
+  memory_said : (command : Command) (source : SourceUse) (old new : Disks D) (text : List ℕ) → text ≡ no_memory_text → CommandSays g command source old new NoMemory text
+  memory_said (Session Step) source old new text is = is
+  memory_said (Plain Init) source old new text is = is
+  memory_said (Plain Dump) source old new text is = is
+  memory_said (Plain Logs) source old new text is = is
+
+  pub refusal_said : (words : List (List ℕ)) (source : SourceUse) (old new : Disks D) (refusal : WordsRefusal) (output : Output)
+      → ReadsWords words (Err refusal) → PrintsWordsRefusal refusal output → Says g words source old new output.status (text_of output.printed)
+  refusal_said words source old new Usage output none says = inl (none, says.0, says.1)
+  refusal_said words source old new Memory output read says = rw (says.0) (inr (read.0, read.1, memory_said read.0 source old new (text_of output.printed) says.1))
+
+  -- no command ends with the sink's status before its text is written
+  sink_said : (command : Command) (source : SourceUse) (old new : Disks D) (text : List ℕ) → CommandSays g command source old new Sink text → ⊥
+  sink_said (Session Step) source old new text says = says
+  sink_said (Plain Init) source old new text says = says
+  sink_said (Plain Dump) source old new text says = says
+  sink_said (Plain Logs) source old new text says = says
+
+  pub never_sink : (command : Command) (source : SourceUse) (old new : Disks D) (status : Status) (text : List ℕ)
+      → CommandSays g command source old new status text → status ≡ Sink → ⊥
+  never_sink command source old new status text says is = sink_said command source old new text (subst (λ s. CommandSays g command source old new s text) is says)
+
+  -- where `init` is done, the disks were made anew
+  pub made_said : (command : PlainCommand) (source : SourceUse) (old new : Disks D) (status : Status) (text : List ℕ)
+      → CommandSays g (Plain command) source old new status text → command ≡ Init → status ≡ Done → Made g old new
+  made_said command source old new status text says init done =
+      let at_done : InitSays g old new Done text = subst (λ s. InitSays g old new s text) done (subst (λ (k : PlainCommand). CommandSays g (Plain k) source old new status text) init says) in
+      at_done.0
+
+-- words that weren't read end with another status than that the command is done
+pub refusal_not_done : (refusal : WordsRefusal) (output : Output) → PrintsWordsRefusal refusal output → output.status ≡ Done → {P : Type 0} → P
+refusal_not_done Usage output says done = absurd (differ (sym says.0 ∙ done))
+  where
+    differ : UsageStatus ≡ Done → ⊥
+    differ e = cc
+refusal_not_done Memory output says done = absurd (differ (sym says.0 ∙ done))
+  where
+    differ : NoMemory ≡ Done → ⊥
+    differ e = cc

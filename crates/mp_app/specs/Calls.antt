@@ -1,10 +1,7 @@
--- One call of the program, as its contracts see it.
+-- What a call of the program reads of its source, and from which opening it answers.
 use Rattle.std.specs.Prelude.{◌≡◌, ℕ, List, [], take, Option, Some, None}
 use Rattle.mp_model.specs.declared.histories.Opening.{Opening}
-use Rattle.mp_outside.specs.declared.disks.Disk as disks
 use Rattle.mp_outside.specs.declared.sources.Source as sources
-use Rattle.mp_files.specs.declared.disks.Disks.{Disks}
-use Rattle.mp_app.specs.Disks.{DiskUse, use_of, uses_of}
 
 -- what was done with the source: what it had left before and after, where it tells, and its counts of faults
 pub record SourceUse : Type 0 where
@@ -13,20 +10,8 @@ pub record SourceUse : Type 0 where
   pub faults : ℕ
   pub faults_after : ℕ
 
--- what a call did with the source and the disks
-pub record Call : Type 0 where
-  pub source : SourceUse
-  pub store : DiskUse
-  pub logs : List DiskUse
-
 abbrev pub read_of : {S : Type 0} → sources.Ghosts S → S → S → SourceUse
 read_of s old new = record { left = s.left old; still_left = s.left new; faults = s.faults old; faults_after = s.faults new }
-
-abbrev pub done_by : {D : Type 0} → disks.Ghosts D → SourceUse → Disks D → Disks D → Call
-done_by d source old new = record { source = source; store = use_of d old.store new.store; logs = uses_of d old.logs.items new.logs.items }
-
-abbrev pub call_of : {S D : Type 0} → sources.Ghosts S → disks.Ghosts D → S → S → Disks D → Disks D → Call
-call_of s d source source' old new = done_by d (read_of s source source') old new
 
 -- these bytes are all that was left, and nothing is left behind them
 abbrev pub ReadToItsEnd : Option (List ℕ) → Option (List ℕ) → List ℕ → Type 0
@@ -39,7 +24,7 @@ ReadUpToTheBound None bytes = Unit {0}
 ReadUpToTheBound (Some input) bytes = bytes ≡ take 1048577 input
 
 -- a store without rows, of which the meta page and the root are taken
-pub record IsFresh (opening : Opening) : Type 0 where
+pub record IsFreshOpening (opening : Opening) : Type 0 where
   pub base : opening.base ≡ 0
   pub taken : opening.taken ≡ 2
   pub rows : opening.rows.items ≡ []

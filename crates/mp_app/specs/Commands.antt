@@ -7,22 +7,23 @@ use Rattle.mp_app.specs.declared.commands.SessionCommand.TheVariants.{Step}
 use Rattle.mp_app.specs.declared.commands.WordsRefusal.{WordsRefusal}
 use Rattle.mp_app.specs.declared.commands.WordsRefusal.TheVariants.{Usage, Memory}
 
-abbrev pub word_of : Command → List ℕ
-word_of (Session Step) = codes "step"
-word_of (Plain Init) = codes "init"
-word_of (Plain Dump) = codes "dump"
-word_of (Plain Logs) = codes "logs"
+-- the words of a command, which may be several
+abbrev pub words_of : Command → List (List ℕ)
+words_of (Session Step) = codes "step" ∷ []
+words_of (Plain Init) = codes "init" ∷ []
+words_of (Plain Dump) = codes "dump" ∷ []
+words_of (Plain Logs) = codes "logs" ∷ []
 
 -- the words name this command
 abbrev pub Names : List (List ℕ) → Command → Type 0
-Names words command = words ≡ word_of command ∷ []
+Names words command = words ≡ words_of command
 
 -- the words name none
 abbrev pub NoCommand : List (List ℕ) → Type 0
 NoCommand words = (command : Command) → Names words command → ⊥
 
 -- what reading the words says
-abbrev pub Reads : List (List ℕ) → Result Command WordsRefusal → Type 0
-Reads words (Ok command) = Names words command
-Reads words (Err Usage) = NoCommand words
-Reads words (Err Memory) = (command : Command) × Names words command
+abbrev pub ReadsWords : List (List ℕ) → Result Command WordsRefusal → Type 0
+ReadsWords words (Ok command) = Names words command
+ReadsWords words (Err Usage) = NoCommand words
+ReadsWords words (Err Memory) = (command : Command) × Names words command

@@ -1,5 +1,5 @@
--- The bytes of a text that is to be printed.
-use Rattle.std.specs.Prelude.{◌≡◌, ℕ, List, ◌⊎◌}
+-- What the functions behind the call print: a status with its text.
+use Rattle.std.specs.Prelude.{◌≡◌, ◌⊎◌, ℕ, List}
 use Rattle.mp_script.specs.Faults.{FaultAt}
 use Rattle.mp_commands.specs.declared.faults.DiskFault.{DiskFault}
 use Rattle.mp_commands.specs.declared.refusals.LogsRefusal.{LogsRefusal}
@@ -9,39 +9,50 @@ use Rattle.mp_store.specs.declared.refusals.StoreRefusal.TheVariants.{NotStore, 
 use Rattle.mp_app.specs.declared.commands.WordsRefusal.{WordsRefusal}
 use Rattle.mp_app.specs.declared.commands.WordsRefusal.TheVariants.{Usage as NotRead, Memory as NoMemory}
 use Rattle.mp_app.specs.declared.output.Output.{Output}
+use Rattle.mp_app.specs.declared.status.Status.{Status}
 use Rattle.mp_app.specs.declared.status.Status.TheVariants.{Usage, Script, Store, Disk, Memory}
 use Rattle.mp_app.specs.Texts.{usage_text, script_fault_text, store_refused_text, store_failed_text, log_failed_text, log_refused_text, disk_failed_text, no_memory_text}
 use Rattle.mp_app.specs.declared.output.Printed.{Printed as PrintedText}
 use Rattle.mp_app.specs.declared.output.Printed.TheVariants.{Fixed, Made}
 
+-- the bytes of a text that is to be printed
 abbrev pub text_of : PrintedText → List ℕ
 text_of (Fixed text) = text.now
 text_of (Made text) = text.items
 
--- the fault is printed, or there was no memory
-abbrev pub SaysFault : FaultAt → Output → Type 0
-SaysFault found output = ((output.status ≡ Script) × (text_of output.printed ≡ script_fault_text found)) ⊎ ((output.status ≡ Memory) × (text_of output.printed ≡ no_memory_text))
+-- the output has this status and this text
+abbrev pub Prints : Status → List ℕ → Output → Type 0
+Prints status text output = (output.status ≡ status) × (text_of output.printed ≡ text)
+
+-- it has them, or there was no memory for the text
+abbrev pub PrintsOrNoMemory : Status → List ℕ → Output → Type 0
+PrintsOrNoMemory status text output = Prints status text output ⊎ Prints Memory no_memory_text output
+
+-- the script's first fault
+abbrev pub PrintsFault : FaultAt → Output → Type 0
+PrintsFault found = PrintsOrNoMemory Script (script_fault_text found)
 
 -- what a refusal of the store is printed as
-abbrev pub SaysRefusal : StoreRefusal → Output → Type 0
-SaysRefusal (NotStore place) output = ((output.status ≡ Store) × (text_of output.printed ≡ store_refused_text place)) ⊎ ((output.status ≡ Memory) × (text_of output.printed ≡ no_memory_text))
-SaysRefusal DiskRefused output = (output.status ≡ Disk) × (text_of output.printed ≡ store_failed_text)
-SaysRefusal MemoryRefused output = (output.status ≡ Memory) × (text_of output.printed ≡ no_memory_text)
+abbrev pub PrintsStoreRefusal : StoreRefusal → Output → Type 0
+PrintsStoreRefusal (NotStore place) = PrintsOrNoMemory Store (store_refused_text place)
+PrintsStoreRefusal DiskRefused = Prints Disk store_failed_text
+PrintsStoreRefusal MemoryRefused = Prints Memory no_memory_text
 
-abbrev pub SaysLogFailed : ℕ → Output → Type 0
-SaysLogFailed primary output = ((output.status ≡ Disk) × (text_of output.printed ≡ log_failed_text primary)) ⊎ ((output.status ≡ Memory) × (text_of output.printed ≡ no_memory_text))
+-- the disk of a primary's log failed
+abbrev pub PrintsLogFailed : ℕ → Output → Type 0
+PrintsLogFailed primary = PrintsOrNoMemory Disk (log_failed_text primary)
 
 -- what a disk that failed is printed as
-abbrev pub SaysDiskFault : DiskFault → Output → Type 0
-SaysDiskFault fault output = ((output.status ≡ Disk) × (text_of output.printed ≡ disk_failed_text fault)) ⊎ ((output.status ≡ Memory) × (text_of output.printed ≡ no_memory_text))
+abbrev pub PrintsDiskFault : DiskFault → Output → Type 0
+PrintsDiskFault fault = PrintsOrNoMemory Disk (disk_failed_text fault)
 
 -- what a refusal of the logs is printed as
-abbrev pub SaysLogsRefusal : LogsRefusal → Output → Type 0
-SaysLogsRefusal (Log primary place) output = ((output.status ≡ Store) × (text_of output.printed ≡ log_refused_text primary place)) ⊎ ((output.status ≡ Memory) × (text_of output.printed ≡ no_memory_text))
-SaysLogsRefusal (LogDisk primary) output = SaysLogFailed primary output
-SaysLogsRefusal NoLogsMemory output = (output.status ≡ Memory) × (text_of output.printed ≡ no_memory_text)
+abbrev pub PrintsLogsRefusal : LogsRefusal → Output → Type 0
+PrintsLogsRefusal (Log primary place) = PrintsOrNoMemory Store (log_refused_text primary place)
+PrintsLogsRefusal (LogDisk primary) = PrintsLogFailed primary
+PrintsLogsRefusal NoLogsMemory = Prints Memory no_memory_text
 
 -- what words that weren't read are answered
-abbrev pub SaysWordsRefusal : WordsRefusal → Output → Type 0
-SaysWordsRefusal NotRead output = (output.status ≡ Usage) × (text_of output.printed ≡ usage_text)
-SaysWordsRefusal NoMemory output = (output.status ≡ Memory) × (text_of output.printed ≡ no_memory_text)
+abbrev pub PrintsWordsRefusal : WordsRefusal → Output → Type 0
+PrintsWordsRefusal NotRead = Prints Usage usage_text
+PrintsWordsRefusal NoMemory = Prints Memory no_memory_text

@@ -4,8 +4,8 @@
 
 ghost use Rattle.std.specs.Prelude.{◌≢◌, IfErr};
 
+mod command_line;
 mod commands;
-mod naming;
 mod opening;
 mod output;
 mod plain;
@@ -18,15 +18,15 @@ mod words;
 
 pub use commands::{Command, PlainCommand, SessionCommand, WordsRefusal};
 use mp_outside::{StdSink, StdSource};
-use naming::read_words;
 use opening::open_disks;
-use output::Output;
+use output::{Output, print};
 pub use plain::plain_call;
 pub use session::session_call;
 pub use status::Status;
 use std::process::ExitCode;
 use std::{env, io};
-pub use top::{print, top};
+pub use top::top;
+use words::read_words;
 
 fn main(rt: HostRuntime) -> ExitCode {
     let mut sink = StdSink::new(rt);

@@ -1,15 +1,17 @@
 //! What is to be printed, and the status that goes with it.
 
-ghost use Rattle.std.specs.Prelude.{◌≡◌, IfOk};
-ghost use Rattle.mp_commands.specs.declared.refusals.LogsRefusal.TheVariants.{Log};
-ghost use Rattle.mp_store.specs.declared.refusals.StoreRefusal.TheVariants.{NotStore};
-ghost use Rattle.mp_app.specs.Printed.{text_of, SaysFault, SaysRefusal, SaysLogFailed, SaysDiskFault, SaysLogsRefusal, SaysWordsRefusal};
+ghost use Rattle.std.specs.Prelude.{◌≡◌, ◌≢◌, IfOk, MatchResult};
+ghost use Rattle.std.specs.Io.KnownBytes.{Appends};
+ghost use Rattle.mp_outside.specs.Faults.{Rose};
+ghost use Rattle.mp_outside.specs.Sinks.{AppendsFront};
+ghost use Rattle.mp_app.specs.Printed.{text_of, Prints, PrintsFault, PrintsStoreRefusal, PrintsLogFailed, PrintsDiskFault, PrintsLogsRefusal, PrintsWordsRefusal};
 ghost use Rattle.mp_app.specs.Texts.{usage_text, not_built_text, script_fault_text, source_fault_text, store_refused_text, store_failed_text, log_failed_text, log_refused_text, ready_text, no_memory_text};
 
 use crate::commands::WordsRefusal;
 use crate::status::Status;
 use mp_commands::{DiskFault, LogsRefusal};
 use mp_model::Text;
+use mp_outside::{Sink, write_all};
 use mp_store::StoreRefusal;
 use std::alloc::{AllocError, Global};
 
@@ -41,101 +43,66 @@ pub struct Output {
 impl Output {
     /// The words are no command.
     pub fn usage() -> Output
-        ensures status { result.status ≡ Status.Usage }
-        ensures text { text_of result.printed ≡ usage_text }
+        ensures { Prints Status.Usage usage_text result }
     {
-        Output {
-            status: Status::Usage,
-            printed: Printed::Fixed(b"usage: mp init, step, run, recover, dump, logs or gen N\n"),
-        }
+        Output::fixed(
+            Status::Usage,
+            b"usage: mp init, step, run, recover, dump, logs or gen N\n",
+        )
     }
 
-    /// The script's first fault, with its line. Where there is no memory for the text, that is what is said.
+    /// The script's first fault, with its line. Where there is no memory for the text, that is what is said; so it is
+    /// with each text that is made.
     pub fn script_fault(alloc: Global, fault: u8, line: u32) -> Output
-        ensures { SaysFault (record { fault = fault; line = line }) result }
+        ensures { PrintsFault (record { fault = fault; line = line }) result }
     {
-        match fault_text(alloc, fault, line) {
-            Ok(text) => Output {
-                status: Status::Script,
-                printed: Printed::Made(text),
-            },
-            Err(_) => Output::no_memory(),
-        }
+        Output::made(Status::Script, fault_text(alloc, fault, line))
     }
 
     /// The script is of several primaries or sessions, which isn't built.
     pub fn not_built() -> Output
-        ensures status { result.status ≡ Status.Script }
-        ensures text { text_of result.printed ≡ not_built_text }
+        ensures { Prints Status.Script not_built_text result }
     {
-        Output {
-            status: Status::Script,
-            printed: Printed::Fixed(b"refused script not built\n"),
-        }
+        Output::fixed(Status::Script, b"refused script not built\n")
     }
 
     /// The source failed.
     pub fn source_fault() -> Output
-        ensures status { result.status ≡ Status.Source }
-        ensures text { text_of result.printed ≡ source_fault_text }
+        ensures { Prints Status.Source source_fault_text result }
     {
-        Output {
-            status: Status::Source,
-            printed: Printed::Fixed(b"fault source\n"),
-        }
+        Output::fixed(Status::Source, b"fault source\n")
     }
 
-    /// The store is refused. Where there is no memory for the text, that is what is said.
+    /// The store is refused.
     pub fn store_refusal(alloc: Global, refusal: StoreRefusal) -> Output
-        ensures { SaysRefusal refusal result }
+        ensures { PrintsStoreRefusal refusal result }
     {
         match refusal {
-            StoreRefusal::NotStore { place } => Output::store_fault(alloc, place),
+            StoreRefusal::NotStore { place } => {
+                Output::made(Status::Store, place_text(alloc, place))
+            }
             StoreRefusal::Disk => Output::store_failed(),
             StoreRefusal::Memory => Output::no_memory(),
         }
     }
 
-    // The store is off its grammar at a place.
-    fn store_fault(alloc: Global, place: u64) -> Output
-        ensures { SaysRefusal (NotStore place) result }
-    {
-        match place_text(alloc, place) {
-            Ok(text) => Output {
-                status: Status::Store,
-                printed: Printed::Made(text),
-            },
-            Err(_) => Output::no_memory(),
-        }
-    }
-
     /// The store's disk failed.
     pub fn store_failed() -> Output
-        ensures status { result.status ≡ Status.Disk }
-        ensures text { text_of result.printed ≡ store_failed_text }
+        ensures { Prints Status.Disk store_failed_text result }
     {
-        Output {
-            status: Status::Disk,
-            printed: Printed::Fixed(b"fault disk store\n"),
-        }
+        Output::fixed(Status::Disk, b"fault disk store\n")
     }
 
-    /// The disk of a primary's log failed. Where there is no memory for the text, that is what is said.
+    /// The disk of a primary's log failed.
     pub fn log_failed(alloc: Global, primary: u8) -> Output
-        ensures { SaysLogFailed primary result }
+        ensures { PrintsLogFailed primary result }
     {
-        match log_text(alloc, primary) {
-            Ok(text) => Output {
-                status: Status::Disk,
-                printed: Printed::Made(text),
-            },
-            Err(_) => Output::no_memory(),
-        }
+        Output::made(Status::Disk, log_text(alloc, primary))
     }
 
-    /// A disk failed. Where there is no memory for the text, that is what is said.
+    /// A disk failed.
     pub fn disk_fault(alloc: Global, fault: DiskFault) -> Output
-        ensures { SaysDiskFault fault result }
+        ensures { PrintsDiskFault fault result }
     {
         match fault {
             DiskFault::Store => Output::store_failed(),
@@ -143,44 +110,29 @@ impl Output {
         }
     }
 
-    /// The logs are refused. Where there is no memory for the text, that is what is said.
+    /// The logs are refused.
     pub fn logs_refusal(alloc: Global, refusal: LogsRefusal) -> Output
-        ensures { SaysLogsRefusal refusal result }
+        ensures { PrintsLogsRefusal refusal result }
     {
         match refusal {
-            LogsRefusal::Log { primary, place } => Output::log_fault(alloc, primary, place),
+            LogsRefusal::Log { primary, place } => {
+                Output::made(Status::Store, log_place_text(alloc, primary, place))
+            }
             LogsRefusal::LogDisk { primary } => Output::log_failed(alloc, primary),
             LogsRefusal::Memory => Output::no_memory(),
         }
     }
 
-    // A primary's log is off its grammar at a place.
-    fn log_fault(alloc: Global, primary: u8, place: u64) -> Output
-        ensures { SaysLogsRefusal (Log primary place) result }
-    {
-        match log_place_text(alloc, primary, place) {
-            Ok(text) => Output {
-                status: Status::Store,
-                printed: Printed::Made(text),
-            },
-            Err(_) => Output::no_memory(),
-        }
-    }
-
     /// The disks were made anew.
     pub fn ready() -> Output
-        ensures status { result.status ≡ Status.Done }
-        ensures text { text_of result.printed ≡ ready_text }
+        ensures { Prints Status.Done ready_text result }
     {
-        Output {
-            status: Status::Done,
-            printed: Printed::Fixed(b"ready\n"),
-        }
+        Output::fixed(Status::Done, b"ready\n")
     }
 
     /// The words weren't read.
     pub fn words_refusal(refusal: WordsRefusal) -> Output
-        ensures { SaysWordsRefusal refusal result }
+        ensures { PrintsWordsRefusal refusal result }
     {
         match refusal {
             WordsRefusal::Usage => Output::usage(),
@@ -190,13 +142,56 @@ impl Output {
 
     /// There was no memory.
     pub fn no_memory() -> Output
-        ensures status { result.status ≡ Status.Memory }
-        ensures text { text_of result.printed ≡ no_memory_text }
+        ensures { Prints Status.Memory no_memory_text result }
+    {
+        Output::fixed(Status::Memory, b"no memory\n")
+    }
+
+    /// What a command was asked for.
+    pub fn done(text: Text) -> Output
+        ensures { Prints Status.Done text.items result }
     {
         Output {
-            status: Status::Memory,
-            printed: Printed::Fixed(b"no memory\n"),
+            status: Status::Done,
+            printed: Printed::Made(text),
         }
+    }
+
+    fn fixed(status: Status, text: &'static [u8]) -> Output
+        ensures { Prints status text.now result }
+    {
+        Output {
+            status,
+            printed: Printed::Fixed(text),
+        }
+    }
+
+    // A text that was made; where there was no memory for it, that is what is said.
+    fn made(status: Status, text: Result<Text, AllocError>) -> Output
+        ensures { MatchResult text (λ it. Prints status it.items result) (λ _. Prints Status.Memory no_memory_text result) }
+    {
+        match text {
+            Ok(text) => Output {
+                status,
+                printed: Printed::Made(text),
+            },
+            Err(_) => Output::no_memory(),
+        }
+    }
+}
+
+/// Writes an output's text, and answers its status, or that the sink failed.
+pub fn print<K: Sink>(output: &Output, sink: &mut K) -> Status
+    requires { output.now.status ≢ Status.Sink }
+    ensures written { result ≢ Status.Sink
+        → (result ≡ output.now.status) × Appends (K.written sink.old) (K.written sink.new) (text_of output.now.printed) }
+    ensures cut { result ≡ Status.Sink
+        → AppendsFront (K.written sink.old) (K.written sink.new) (text_of output.now.printed) }
+    ensures sink_failed { result ≡ Status.Sink → Rose (K.faults sink.old) (K.faults sink.new) }
+{
+    match write_all(sink, output.printed.as_slice()) {
+        Ok(()) => output.status,
+        Err(_) => Status::Sink,
     }
 }
 

@@ -2,17 +2,16 @@
 
 ghost use Rattle.std.specs.Prelude.{◌≡◌, ◌≢◌, length};
 ghost use Rattle.mp_outside.specs.Faults.{Rose};
+ghost use Rattle.mp_files.specs.Nine.{KeptDisk, KeptLogs, KeptNine, StillNine};
 ghost use Rattle.mp_commands.specs.Fresh.{Made};
 ghost use Rattle.mp_app.specs.declared.commands.Command.TheVariants.{Plain};
-ghost use Rattle.mp_app.specs.Calls.{SourceUse, done_by, call_of};
-ghost use Rattle.mp_app.specs.Disks.{Untouched, AsBefore, EachAsBefore, use_of, uses_of};
+ghost use Rattle.mp_app.specs.Calls.{SourceUse, read_of};
 ghost use Rattle.mp_app.specs.Outcomes.{CommandSays, InitSays, DumpSays, LogsSays, Writes, WritesFront};
 ghost use Rattle.mp_app.specs.Printed.{text_of};
 
 use crate::commands::PlainCommand;
-use crate::output::{Output, Printed};
+use crate::output::{Output, print};
 use crate::status::Status;
-use crate::top::print;
 use mp_commands::{dump, init, print_logs};
 use mp_files::Disks;
 use mp_outside::{Disk, Sink, Source};
@@ -28,26 +27,28 @@ pub fn plain_call<S: Source, K: Sink, D: Disk>(
 ) -> Status
     requires eight { length disks.old.logs.items ≡ 8 }
     ensures written { result ≢ Status.Sink
-        → Writes (CommandSays (Plain command.now) (call_of S.Source D.Disk source.old source.new disks.old disks.new)) result (K.written sink.old) (K.written sink.new) }
+        → Writes (CommandSays D.Disk (Plain command.now) (read_of S.Source source.old source.new) disks.old disks.new)
+        result (K.written sink.old) (K.written sink.new) }
     ensures cut { result ≡ Status.Sink
-        → WritesFront (CommandSays (Plain command.now) (call_of S.Source D.Disk source.old source.new disks.old disks.new)) (K.written sink.old) (K.written sink.new) }
+        → WritesFront (CommandSays D.Disk (Plain command.now) (read_of S.Source source.old source.new) disks.old disks.new)
+        (K.written sink.old) (K.written sink.new) }
     ensures sink_failed { result ≡ Status.Sink → Rose (K.faults sink.old) (K.faults sink.new) }
     ensures unread { source.new ≡ source.old }
+    ensures nine { StillNine D.Disk disks.old disks.new }
     // `init` alone changes disks: where it ends with status 0, they are a fresh store and logs without batches.
     ensures ready { result ≡ Status.Done → command.now ≡ PlainCommand.Init → Made D.Disk disks.old disks.new }
-    ensures untouched { command.now ≢ PlainCommand.Init → Untouched D.Disk disks.old disks.new }
+    ensures untouched { command.now ≢ PlainCommand.Init → KeptNine D.Disk disks.old disks.new }
 {
     let output = answer(alloc, command, disks);
     print(&output, sink)
 }
 
 // What a command comes to.
-#[tactic(auto, using(crate::proofs::StillThere::store_untouched, crate::proofs::StillThere::logs_untouched))]
 fn answer<D: Disk>(alloc: Global, command: &PlainCommand, disks: &mut Disks<D>) -> Output
     requires eight { length disks.old.logs.items ≡ 8 }
-    ensures says { (source : SourceUse) → CommandSays (Plain command.now) (done_by D.Disk source disks.old disks.new) result.status (text_of result.printed) }
-    ensures ready { result.status ≡ Status.Done → command.now ≡ PlainCommand.Init → Made D.Disk disks.old disks.new }
-    ensures untouched { command.now ≢ PlainCommand.Init → Untouched D.Disk disks.old disks.new }
+    ensures says { (source : SourceUse) → CommandSays D.Disk (Plain command.now) source disks.old disks.new result.status (text_of result.printed) }
+    ensures nine { StillNine D.Disk disks.old disks.new }
+    ensures untouched { command.now ≢ PlainCommand.Init → KeptNine D.Disk disks.old disks.new }
 {
     match command {
         PlainCommand::Init => answer_init(alloc, disks),
@@ -59,8 +60,8 @@ fn answer<D: Disk>(alloc: Global, command: &PlainCommand, disks: &mut Disks<D>) 
 // What making the disks anew comes to.
 fn answer_init<D: Disk>(alloc: Global, disks: &mut Disks<D>) -> Output
     requires eight { length disks.old.logs.items ≡ 8 }
-    ensures says { (source : SourceUse) → InitSays (done_by D.Disk source disks.old disks.new) result.status (text_of result.printed) }
-    ensures ready { result.status ≡ Status.Done → Made D.Disk disks.old disks.new }
+    ensures says { InitSays D.Disk disks.old disks.new result.status (text_of result.printed) }
+    ensures nine { StillNine D.Disk disks.old disks.new }
 {
     match init(disks) {
         Ok(()) => Output::ready(),
@@ -70,14 +71,11 @@ fn answer_init<D: Disk>(alloc: Global, disks: &mut Disks<D>) -> Output
 
 // What the store comes to.
 fn answer_dump<D: Disk>(alloc: Global, store: &mut D) -> Output
-    ensures says { DumpSays (use_of D.Disk store.old store.new) result.status (text_of result.printed) }
-    ensures untouched { AsBefore D.Disk store.old store.new }
+    ensures says { DumpSays D.Disk store.old store.new result.status (text_of result.printed) }
+    ensures kept { KeptDisk D.Disk store.old store.new }
 {
     match dump(alloc, store) {
-        Ok(text) => Output {
-            status: Status::Done,
-            printed: Printed::Made(text),
-        },
+        Ok(text) => Output::done(text),
         Err(refusal) => Output::store_refusal(alloc, refusal),
     }
 }
@@ -85,14 +83,11 @@ fn answer_dump<D: Disk>(alloc: Global, store: &mut D) -> Output
 // What the logs come to.
 fn answer_logs<D: Disk>(alloc: Global, logs: &mut Vec<D>) -> Output
     requires eight { length logs.old.items ≡ 8 }
-    ensures says { LogsSays (uses_of D.Disk logs.old.items logs.new.items) result.status (text_of result.printed) }
-    ensures untouched { EachAsBefore D.Disk logs.old.items logs.new.items }
+    ensures says { LogsSays D.Disk logs.old.items logs.new.items result.status (text_of result.printed) }
+    ensures kept { KeptLogs D.Disk logs.old.items logs.new.items }
 {
     match print_logs(alloc, logs) {
-        Ok(text) => Output {
-            status: Status::Done,
-            printed: Printed::Made(text),
-        },
+        Ok(text) => Output::done(text),
         Err(refusal) => Output::logs_refusal(alloc, refusal),
     }
 }

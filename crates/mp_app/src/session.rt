@@ -1,18 +1,20 @@
 //! The commands that run a script's sessions.
 
 ghost use Rattle.std.specs.Prelude.{◌≡◌, ◌≢◌, IsTrue, false, IfOk, length};
+ghost use Rattle.mp_model.specs.declared.transcripts.Mode.TheVariants.{Step};
 ghost use Rattle.mp_script.specs.OneSession.{AreAlone, IsPlain};
+ghost use Rattle.mp_script.specs.Spelling.{IsSpelled};
 ghost use Rattle.mp_outside.specs.Faults.{Rose};
 ghost use Rattle.mp_outside.specs.Sources.{TakesUpTo};
 ghost use Rattle.mp_app.specs.declared.commands.Command.TheVariants.{Session};
-ghost use Rattle.mp_app.specs.Calls.{read_of, call_of};
-ghost use Rattle.mp_app.specs.Outcomes.{StepSays, CommandSays, BytesSay, ScriptSays, PrintsLegal, Writes, WritesFront};
+ghost use Rattle.mp_app.specs.Calls.{read_of};
+ghost use Rattle.mp_app.specs.Outcomes.{StepSays, CommandSays, PrintsLegal, Writes, WritesFront};
+ghost use Rattle.mp_app.specs.Answered.{BytesSay, ScriptSays};
 ghost use Rattle.mp_app.specs.Printed.{text_of};
 
 use crate::commands::SessionCommand;
-use crate::output::{Output, Printed};
+use crate::output::{Output, print};
 use crate::status::Status;
-use crate::top::print;
 use mp_files::Disks;
 use mp_model::{Memory, Opening, Rows, Text};
 use mp_outside::{Disk, ReadRefusal, Sink, Source, read_all};
@@ -33,9 +35,11 @@ pub fn session_call<S: Source, K: Sink, D: Disk>(
 ) -> Status
     requires eight { length disks.old.logs.items ≡ 8 }
     ensures written { result ≢ Status.Sink
-        → Writes (CommandSays (Session command.now) (call_of S.Source D.Disk source.old source.new disks.old disks.new)) result (K.written sink.old) (K.written sink.new) }
+        → Writes (CommandSays D.Disk (Session command.now) (read_of S.Source source.old source.new) disks.old disks.new)
+        result (K.written sink.old) (K.written sink.new) }
     ensures cut { result ≡ Status.Sink
-        → WritesFront (CommandSays (Session command.now) (call_of S.Source D.Disk source.old source.new disks.old disks.new)) (K.written sink.old) (K.written sink.new) }
+        → WritesFront (CommandSays D.Disk (Session command.now) (read_of S.Source source.old source.new) disks.old disks.new)
+        (K.written sink.old) (K.written sink.new) }
     ensures sink_failed { result ≡ Status.Sink → Rose (K.faults sink.old) (K.faults sink.new) }
     ensures bound { TakesUpTo 1048577 (S.left source.old) (S.left source.new) }
     ensures untouched { disks.new ≡ disks.old }
@@ -71,28 +75,27 @@ fn answer_bytes(alloc: Global, bytes: &[u8]) -> Output
 // Whether a script has one primary and one session at most.
 fn is_plain(script: &Script) -> bool
     ensures yes { IsTrue result → IsPlain script.now }
-    ensures no { result ≡ false → IsPlain script.now → ⊥ }
+    ensures no { result ≡ false → ¬ IsPlain script.now }
 {
     script.primaries == 1 && script.sessions.len() <= 1
 }
 
 fn answer_script(alloc: Global, script: &Script) -> Output
-    requires { AreAlone script.now.lines.items }
+    requires alone { AreAlone script.now.lines.items }
+    requires spelled { IsSpelled script.now }
     ensures { ScriptSays script.now result.status (text_of result.printed) }
 {
     match transcript_text(alloc, script) {
-        Ok(text) => Output {
-            status: Status::Done,
-            printed: Printed::Made(text),
-        },
+        Ok(text) => Output::done(text),
         Err(Memory) => Output::no_memory(),
     }
 }
 
 // The text of a legal transcript of the script over a fresh store.
 fn transcript_text(alloc: Global, script: &Script) -> Result<Text, Memory>
-    requires { AreAlone script.now.lines.items }
-    ensures { IfOk result (λ text. PrintsLegal script.now text.items) }
+    requires alone { AreAlone script.now.lines.items }
+    requires spelled { IsSpelled script.now }
+    ensures { IfOk result (λ text. PrintsLegal Step script.now text.items) }
 {
     let opening = Opening {
         base: 0,

@@ -20,6 +20,10 @@ const SCANS: &str =
 const SCANNED: &str =
     "transcript step base 0\ns1.1 begin 0\ns1.2 put ok\ns1.3 put ok\ns1.4 put ok\ns1.5 del ok\ns1.6 scan 2 1=a 3=c\ns1.7 scan 1 3=c\ns1.8 scan 0\ns1.9 commit 1\nend commits 1\n";
 
+// A fresh store.
+const DUMPED: &str =
+    "store format 1 generation 1 base 0 llsn 0 version 0\npage 0 meta llsn 0 taken 2\npage 1 leaf llsn 0 low 0 high 4294967296 rows 0\nend pages 2\n";
+
 // What one call came to: its status and what it printed.
 #[derive(Drop)]
 struct Ran {
@@ -215,11 +219,9 @@ fn faults_give_their_status(rt: HostRuntime) -> Result<(), Fail> {
 
 #[test]
 fn a_fresh_store_is_dumped(rt: HostRuntime) -> Result<(), Fail> {
-    let printed =
-        "store format 1 generation 1 base 0 llsn 0 version 0\npage 0 meta llsn 0 taken 2\npage 1 leaf llsn 0 low 0 high 4294967296 rows 0\nend pages 2\n";
     let ran = run_on(rt.alloc(), "dump", store_with(rt.alloc(), 0, &[])?)?;
     assert!(rt; ran.status == Status::Done);
-    assert!(rt; ran.sink.written() == printed.as_bytes());
+    assert!(rt; ran.sink.written() == DUMPED.as_bytes());
     Ok(())
 }
 
@@ -279,5 +281,26 @@ fn logs_off_the_grammar_are_refused(rt: HostRuntime) -> Result<(), Fail> {
     let ran = run_logs(rt.alloc(), 3, &[])?;
     assert!(rt; ran.status == Status::Store);
     assert!(rt; ran.sink.written() == b"refused log 3 place 0\n".as_slice());
+    Ok(())
+}
+
+// The three commands, one after another over the same disks.
+#[test]
+fn a_store_is_made_and_then_read(rt: HostRuntime) -> Result<(), Fail> {
+    let alloc = rt.alloc();
+    let mut disks = disks_of(alloc, MemDisk::new(alloc, &[7; 3], 8_519_808, &[])?)?;
+    let text = format!(in alloc; "{HEAD}{SCANS}")?;
+    let mut source = MemSource::new(alloc, text.as_bytes(), &[])?;
+    let mut sink = MemSink::new(alloc, 100_000, &[])?;
+    let words = [
+        words_of(alloc, &["init"])?,
+        words_of(alloc, &["step"])?,
+        words_of(alloc, &["dump"])?,
+    ];
+    assert!(rt; top(alloc, &words[0], &mut source, &mut sink, &mut disks) == Status::Done);
+    assert!(rt; top(alloc, &words[1], &mut source, &mut sink, &mut disks) == Status::Done);
+    assert!(rt; top(alloc, &words[2], &mut source, &mut sink, &mut disks) == Status::Done);
+    let printed = format!(in alloc; "ready\n{SCANNED}{DUMPED}")?;
+    assert!(rt; sink.written() == printed.as_bytes());
     Ok(())
 }

@@ -3,4 +3,4 @@ pub mod Sound
 pub mod Taken
 pub mod MadeLogs
 mod LogTexts
-mod LogsBelow
+pub mod LogsBelow

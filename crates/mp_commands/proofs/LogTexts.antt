@@ -1,22 +1,17 @@
 -- What is read of a log mtr by mtr, and log by log.
-use Rattle.std.proofs.Common.{◌≡◌, ◌∙◌, ℕ, ◌+◌, ◌++◌, List, [], ◌∷◌, length, Option, Result, Err, IsTrue, refl, sym, ap, subst, append-nil, append_assoc, arith}
+use Rattle.std.proofs.Common.{◌≡◌, ◌∙◌, ℕ, ◌+◌, ◌++◌, List, [], ◌∷◌, length, Option, Result, Err, IsTrue, sym, ap, subst, append-nil, append_assoc, arith}
 use Rattle.std.specs.List.{flat_map}
 use Rattle.mp_outside.specs.declared.disks.Disk.{Ghosts}
 use Rattle.mp_cells.specs.declared.records.Mtr.{Mtr}
 use Rattle.mp_log.specs.declared.refusals.LogRefusal.{LogRefusal}
 use Rattle.mp_log.specs.declared.refusals.LogRefusal.TheVariants.{Fault, Disk, Memory}
 use Rattle.mp_log.specs.Readers.{ReaderView, Remains, GivesNext}
-use Rattle.mp_commands.specs.LogTexts.{mtr_text, IsKept, FindsOwn}
+use Rattle.mp_files.specs.Nine.{KeptDisk}
+use Rattle.mp_commands.specs.LogTexts.{mtr_text, FindsOwn}
 
 module _ {D : Type 0} (g : Ghosts D) where
-  pub kept_same : (d : D) → IsKept g d d
-  kept_same d = record { tells = refl; quiet = record { same = refl; no_new = λ c h. h } }
-
-  pub kept_on : (a b c : D) → IsKept g a b → IsKept g b c → IsKept g a c
-  kept_on a b c p q = record { tells = q.tells ∙ p.tells; quiet = record { same = q.quiet.same ∙ p.quiet.same; no_new = λ x h. p.quiet.no_new x (q.quiet.no_new x h) } }
-
   -- what a reader gives of a disk that was kept, it gives of what the disk read at first
-  pub next_gives : (first now : D) (reader new : ReaderView) (mtrs : List Mtr) (fault : Option ℕ) (result : Result (Option Mtr) LogRefusal) → IsKept g first now
+  pub next_gives : (first now : D) (reader new : ReaderView) (mtrs : List Mtr) (fault : Option ℕ) (result : Result (Option Mtr) LogRefusal) → KeptDisk g first now
       → ((ms : List Mtr) (f : Option ℕ) → IsTrue (g.tells now) → Remains reader (g.seen now) ms f → GivesNext (g.seen now) ms f new result)
       → IsTrue (g.tells first) → Remains reader (g.seen first) mtrs fault → GivesNext (g.seen first) mtrs fault new result
   next_gives first now reader new mtrs fault result kept gives tells remains =

@@ -1,10 +1,13 @@
--- Logs that are emptied one after another.
-use Rattle.std.proofs.Common.{◌≡◌, ◌≢◌, ℕ, zero, suc, ◌+◌, List, [], ◌∷◌, length, Some, slice_get, slice_set, refl, sym, ◌∙◌, inl, inr, subst, arith, false, Result, Ok, Err, OnOk, OnErr}
+-- Logs that are made one after another.
+use Rattle.std.proofs.Common.{◌≡◌, ◌≢◌, ℕ, zero, suc, ◌+◌, List, [], ◌∷◌, length, Some, slice_get, slice_set, refl, sym, ◌∙◌, inl, inr, subst, arith, true, false, Result, Ok, Err, OnOk, OnErr}
 use Rattle.std.specs.Result.{is_err}
 use Rattle.std.proofs.lemmas.Bool.{cases_lt}
 use Rattle.std.proofs.lemmas.Option.{slice_get_within}
 use Rattle.mp_outside.specs.declared.disks.Disk.{Ghosts}
-use Rattle.mp_commands.specs.Fresh.{At, MadeLog, MadeBelow, FaultRose}
+use Rattle.mp_files.specs.Nine.{At, StillDisk, DiskRose, RoseAt}
+use Rattle.mp_files.proofs.Places.{At-refl, At-one}
+use Rattle.mp_files.proofs.Nines.{StillDisk-refl}
+use Rattle.mp_commands.specs.Fresh.{MadeLog, MadeBelow}
 
 some_same : {D : Type 0} (a b : D) → Some a ≡ Some b → a ≡ b
 some_same a b h = cc
@@ -21,8 +24,14 @@ pub replaced : {D : Type 0} (holds : D → D → Type 0) (xs : List D) (place : 
 replaced holds xs place was put is h = λ before after at_before at_after.
     subst (λ b. holds b after) (some_same was before (sym is ∙ at_before)) (subst (λ a. holds was a) (at_set xs place put after at_after) h)
 
+put_there : {D : Type 0} (xs : List D) (place : ℕ) (put was : D) → slice_get xs place ≡ Some was → slice_get (slice_set xs place put) place ≡ Some put
+put_there [] zero put was h = absurd (cc)
+put_there [] (suc place) put was h = absurd (cc)
+put_there (x ∷ xs) zero put was h = refl
+put_there (x ∷ xs) (suc place) put was h = put_there xs place put was h
+
 pub none_made : {D : Type 0} (g : Ghosts D) (logs : List D) → MadeBelow g 0 logs logs
-none_made g logs = record { count = refl; made = λ k lt. absurd (omega (arith, lt)); others = λ k least. refl }
+none_made g logs = record { count = refl; each = λ k lt. absurd (omega (arith, lt)); others = λ k least. refl }
 
 -- what holds at a place of the lists, where others are the same there
 at_places : {D : Type 0} (holds : D → D → Type 0) (old old' new new' : List D) (k : ℕ) → slice_get old k ≡ slice_get old' k → slice_get new k ≡ slice_get new' k → At holds old new k → At holds old' new' k
@@ -32,20 +41,33 @@ pub one_made : {D : Type 0} (g : Ghosts D) (place : ℕ) (old mid new : List D) 
     → ((k : ℕ) → k ≢ place → slice_get new k ≡ slice_get mid k) → At (MadeLog g) mid new place → MadeBelow g (place + 1) old new
 one_made g place old mid new so_far count others this = record {
   count = count ∙ so_far.count;
-  made = λ k lt. elim (cases_lt k place) [
-    | inl below ↦ at_places (MadeLog g) old old mid new k refl (sym (others k (λ e. absurd (omega (arith, e, below))))) (so_far.made k below)
+  each = λ k lt. elim (cases_lt k place) [
+    | inl below ↦ at_places (MadeLog g) old old mid new k refl (sym (others k (λ e. absurd (omega (arith, e, below))))) (so_far.each k below)
     | inr above ↦ let e : place ≡ k = omega (arith, lt, above) in subst (λ n. At (MadeLog g) old new n) e (at_places (MadeLog g) mid old new new place (so_far.others place (omega arith)) refl this)
   ];
   others = λ k least. others k (λ e. absurd (omega (arith, e, least))) ∙ so_far.others k (omega (arith, least));
 }
 
 -- the fault of one log, of the logs as they were
-pub one_failed : {D : Type 0} (g : Ghosts D) (place : ℕ) (old mid new : List D) → MadeBelow g place old mid → At (FaultRose g) mid new place → At (FaultRose g) old new place
-one_failed g place old mid new so_far this = at_places (FaultRose g) mid old new new place (so_far.others place (omega arith)) refl this
+pub one_failed : {D : Type 0} (g : Ghosts D) (place : ℕ) (old mid new : List D) → MadeBelow g place old mid → RoseAt g place mid new → RoseAt g place old new
+one_failed g place old mid new so_far this = record { before = this.before; after = this.after; was = sym (so_far.others place (omega arith)) ∙ this.was; now = this.now; rose = this.rose }
+
+-- it is still there
+pub one_still : {D : Type 0} (g : Ghosts D) (place : ℕ) (old mid new : List D) → MadeBelow g place old mid → ((k : ℕ) → At (StillDisk g) old mid k)
+    → ((k : ℕ) → k ≢ place → slice_get new k ≡ slice_get mid k) → At (StillDisk g) mid new place → (k : ℕ) → At (StillDisk g) old new k
+one_still g place old mid new so_far still others this =
+    At-one (StillDisk g) old mid new place others still (at_places (StillDisk g) mid old new new place (so_far.others place (omega arith)) refl this)
+
+pub all_still : {D : Type 0} (g : Ghosts D) (logs : List D) (k : ℕ) → At (StillDisk g) logs logs k
+all_still g logs = At-refl (StillDisk g) (StillDisk-refl g) logs
+
+-- where an element was put there was one, and there is one
+pub rose_there : {D : Type 0} (g : Ghosts D) (xs : List D) (place : ℕ) (was put : D) → slice_get xs place ≡ Some was → DiskRose g was put → RoseAt g place xs (slice_set xs place put)
+rose_there g xs place was put is rose = record { before = was; after = put; was = is; now = put_there xs place put was is; rose = rose }
 
 -- all of them
 pub all_made : {D : Type 0} (g : Ghosts D) (old new : List D) → MadeBelow g (length old) old new → (k : ℕ) → At (MadeLog g) old new k
-all_made g old new made k = λ before after was now. made.made k (slice_get_within old k before was) before after was now
+all_made g old new made k = λ before after was now. made.each k (slice_get_within old k before was) before after was now
 
 -- what holds after a good call, of two promises under one premise
 pub both_done : {T E : Type 0} (r : Result T E) (P A B : Type 0) → (P → OnOk r A) → (P → OnOk r B) → OnOk r (P → A × B)
@@ -64,3 +86,8 @@ done_so (Err e) P Q f h = h
 pub done : {T E : Type 0} (r : Result T E) (P : Type 0) → is_err r ≡ false → OnOk r P → P
 done (Ok x) P is h = h
 done (Err e) P is h = absurd (cc)
+
+-- and one that was
+pub refused : {T E : Type 0} (r : Result T E) (P : Type 0) → is_err r ≡ true → OnErr r P → P
+refused (Ok x) P is h = absurd (cc)
+refused (Err e) P is h = h

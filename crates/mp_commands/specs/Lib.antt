@@ -1,4 +1,3 @@
-pub mod Answers
 pub mod Dumps
 pub mod Fresh
 pub mod LogTexts

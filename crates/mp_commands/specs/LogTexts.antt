@@ -1,18 +1,17 @@
 -- How logs are printed, and which one is refused. The log of primary n has the place n - 1.
-use Rattle.std.specs.Prelude.{◌≡◌, ℕ, zero, suc, ◌+◌, ◌≤◌, List, [], ◌∷◌, ◌++◌, length, slice_get, Option, Some, None, Result, Ok, Err, IsTrue, IfOk, codes, decimal}
+use Rattle.std.specs.Prelude.{◌≡◌, ℕ, zero, suc, ◌+◌, ◌<◌, List, [], ◌∷◌, ◌++◌, length, slice_get, Option, Some, None, Result, Ok, Err, IsTrue, IfOk, codes, decimal}
 use Rattle.std.specs.List.{flat_map}
 use Rattle.mp_outside.specs.declared.disks.Disk.{Ghosts}
-use Rattle.mp_outside.specs.Disks.{Quiet}
 use Rattle.mp_cells.specs.declared.records.Mtr.{Mtr}
 use Rattle.mp_report.specs.Lines.{line}
 use Rattle.mp_report.specs.Records.{record_text}
 use Rattle.mp_log.specs.Readers.{log_mtrs}
-use Rattle.mp_log.specs.Reading.{HasCause}
+use Rattle.mp_log.specs.Reading.{LogCause}
 use Rattle.mp_log.specs.declared.refusals.LogRefusal.{LogRefusal}
 use Rattle.mp_log.specs.declared.refusals.LogRefusal.TheVariants as refusals
 use Rattle.mp_commands.specs.declared.refusals.LogsRefusal.{LogsRefusal}
 use Rattle.mp_commands.specs.declared.refusals.LogsRefusal.TheVariants.{Log, LogDisk, Memory}
-use Rattle.mp_commands.specs.Fresh.{At, FaultRose}
+use Rattle.mp_files.specs.Nine.{seen_at, EachTells, KeptDisk, RoseOf}
 
 -- an mtr: its line, and its records
 abbrev pub mtr_words : Mtr → List (List ℕ)
@@ -64,13 +63,6 @@ unfoldable pub fault_below : (ℕ → List ℕ) → ℕ → Option LogFault
 fault_below files zero = None
 fault_below files (suc place) = or_next (fault_below files place) (place + 1) (read_at files place).1
 
--- Ok where no log has a fault, and Log at the first that has
-abbrev pub FindsLog : {T : Type 0} → Option LogFault → Result T LogsRefusal → Type 0
-FindsLog fault (Ok x) = fault ≡ None
-FindsLog fault (Err (Log primary place)) = fault ≡ Some (record { primary = primary; place = place })
-FindsLog fault (Err (LogDisk primary)) = Unit {0}
-FindsLog fault (Err Memory) = Unit {0}
-
 -- a refusal of a primary's log, among the other logs
 abbrev pub IsRefused : ℕ → LogRefusal → LogsRefusal → Type 0
 IsRefused primary (refusals.Fault place) refusal = refusal ≡ Log primary place
@@ -85,39 +77,32 @@ FindsOwn fault (Err refusals.Disk) = Unit {0}
 FindsOwn fault (Err refusals.Memory) = Unit {0}
 
 module _ {D : Type 0} (g : Ghosts D) where
-  -- what a read of a disk gives, where there is one
-  abbrev pub seen_of : Option D → List ℕ
-  seen_of None = []
-  seen_of (Some disk) = g.seen disk
-
-  -- what a read of the log at each place gives
-  abbrev pub seen_at : List D → ℕ → List ℕ
-  seen_at logs place = seen_of (slice_get logs place)
-
-  -- each log tells its bytes
-  abbrev pub EachTells : List D → Type 0
-  EachTells logs = (place : ℕ) (log : D) → slice_get logs place ≡ Some log → IsTrue (g.tells log)
-
-  -- a disk tells as before, reads as before, and a crash leaves nothing that it didn't leave before
-  pub record IsKept (old new : D) : Type 0 where
-    pub tells : g.tells new ≡ g.tells old
-    pub quiet : Quiet (g.seen old) (g.image old) (g.seen new) (g.image new)
+  -- each log below a place tells its bytes
+  abbrev pub TellBelow : ℕ → List D → Type 0
+  TellBelow bound logs = (place : ℕ) (log : D) → place < bound → slice_get logs place ≡ Some log → IsTrue (g.tells log)
 
   -- what printing a primary's log answers, adds to a text, and does with its disk
   pub record Did (primary : ℕ) (text text_after : List ℕ) (result : Result ℕ LogRefusal) (old new : D) : Type 0 where
-    pub kept : IsKept old new
+    pub kept : KeptDisk g old new
     pub printed : IsTrue (g.tells old) → IfOk result (λ count. (text_after ≡ text ++ log_text primary (log_mtrs primary (g.seen old)).0) × (count ≡ length (log_mtrs primary (g.seen old)).0))
     pub finds : IsTrue (g.tells old) → FindsOwn (log_mtrs primary (g.seen old)).1 result
-    pub count : g.faults old ≤ g.faults new
-    pub cause : HasCause (g.faults old) (g.faults new) result
+    pub cause : LogCause (g.faults old) (g.faults new) result
 
-  -- and so does each of some disks
-  pub record AreKept (old new : List D) : Type 0 where
-    pub count : length new ≡ length old
-    pub each : (place : ℕ) → At IsKept old new place
+  -- the log of a primary is the first off the grammar, first at this place; where it and those before it tell their bytes
+  pub record IsFirstFault (fault : LogFault) (logs : List D) : Type 0 where
+    pub at : ℕ
+    pub its : fault.primary ≡ at + 1
+    pub there : at < length logs
+    pub first : TellBelow fault.primary logs → fault_below (seen_at g logs) fault.primary ≡ Some fault
 
-  -- where a log's disk failed, its count of faults rose
-  abbrev pub ExplainsLog : LogsRefusal → List D → List D → Type 0
-  ExplainsLog (Log primary place) old new = Unit {0}
-  ExplainsLog (LogDisk primary) old new = (place : ℕ) × (primary ≡ place + 1) × At (FaultRose g) old new place
-  ExplainsLog Memory old new = Unit {0}
+  -- the count of faults of a primary's log rose, and no log before it is off the grammar; where they tell their bytes
+  pub record IsFirstFailed (primary : ℕ) (old new : List D) : Type 0 where
+    pub rose : RoseOf g primary old new
+    pub before : TellBelow rose.0 old → fault_below (seen_at g old) rose.0 ≡ None
+
+  -- Ok where no log is off the grammar, and each refusal for its reason
+  abbrev pub FindsLogs : {T : Type 0} → Result T LogsRefusal → List D → List D → Type 0
+  FindsLogs (Ok text) old new = EachTells g old → fault_below (seen_at g old) (length old) ≡ None
+  FindsLogs (Err (Log primary place)) old new = IsFirstFault (record { primary = primary; place = place }) old
+  FindsLogs (Err (LogDisk primary)) old new = IsFirstFailed primary old new
+  FindsLogs (Err Memory) old new = Unit {0}

@@ -1,19 +1,19 @@
 //! The stored pages.
 
-ghost use Rattle.std.specs.Prelude.{◌≡◌, ℕ, ◌++◌, ◌<◌, ◌≤◌, IsTrue, IfOk, OnOk, IsOk, None};
+ghost use Rattle.std.specs.Prelude.{◌≡◌, ℕ, ◌++◌, ◌<◌, ◌≤◌, true, IsTrue, IfOk, OnOk, IsOk, None};
 ghost use Rattle.mp_outside.specs.Disks.{Quiet};
+ghost use Rattle.mp_files.specs.Nine.{KeptDisk};
 ghost use Rattle.mp_cells.specs.declared.kinds.Kind.TheVariants.{Meta};
 ghost use Rattle.mp_cells.specs.PageView.{is_of};
 ghost use Rattle.mp_report.specs.Pages.{page_text};
-ghost use Rattle.mp_store.specs.Layout.{store_length};
-ghost use Rattle.mp_store.specs.StoreFiles.{homes_fault, first_fault};
-ghost use Rattle.mp_commands.specs.Answers.{Finds, HasCause};
+ghost use Rattle.mp_store.specs.StoreFiles.{store_fault};
+ghost use Rattle.mp_store.specs.Answers.{StoreFinds, StoreCause};
 ghost use Rattle.mp_commands.specs.Dumps.{taken_text, taken_texts, store_text, dump_text};
 
 use crate::lines::{push_end, push_header};
 use mp_model::{Memory, Text};
 use mp_outside::Disk;
-use mp_page::{Kind, Page};
+use mp_page::Page;
 use mp_report::print_page;
 use mp_store::{Store, StoreRefusal};
 use std::alloc::Global;
@@ -28,49 +28,38 @@ pub fn dump<D: Disk>(alloc: Global, disk: &mut D) -> Result<Text, StoreRefusal>
     ensures tells { D.tells disk.new ≡ D.tells disk.old }
     ensures quiet { Quiet (D.seen disk.old) (D.image disk.old) (D.seen disk.new) (D.image disk.new) }
     ensures text { IsTrue (D.tells disk.old) → IfOk result (λ text. text.items ≡ dump_text (D.seen disk.old)) }
-    ensures finds { IsTrue (D.tells disk.old) → Finds (first_fault (D.seen disk.old)) result }
+    ensures finds { IsTrue (D.tells disk.old) → StoreFinds (store_fault (D.seen disk.old)) result }
     ensures count { D.faults disk.old ≤ D.faults disk.new }
-    ensures cause { HasCause (D.faults disk.old) (D.faults disk.new) result }
+    ensures cause { StoreCause (D.faults disk.old) (D.faults disk.new) result }
 {
-    let store = Store::open(disk)?;
-    let map = store.read_page(disk, 0)?;
-    if !is_meta(&map) {
-        return Err(StoreRefusal::NotStore { place: 128 });
-    }
-    print_store(alloc, disk, &store, &map)
+    let mut store = match Store::open(alloc, disk) {
+        Ok(store) => store,
+        Err(unopened) => return Err(unopened.refusal),
+    };
+    let map = store.read_map()?;
+    print_store(alloc, &mut store, &map)
 }
 
-// Whether a page is a meta page.
-fn is_meta(page: &Page) -> bool
-    ensures { result ≡ is_of Meta page.now }
-{
-    match page.kind() {
-        Kind::Meta => true,
-        _ => false,
-    }
-}
-
-// The text of an open store with this meta page. What was opened without a fault isn't refused by its grammar.
+// The text of an open store with this map. What was opened without a fault isn't refused by its grammar.
 #[tactic(auto, unfolding(crate::specs::Dumps::store_text))]
 fn print_store<D: Disk>(
     alloc: Global,
-    disk: &mut D,
-    store: &Store,
+    store: &mut Store<'_, D>,
     map: &Page,
 ) -> Result<Text, StoreRefusal>
     requires meta { IsTrue (is_of Meta map.now) }
-    ensures tells { D.tells disk.new ≡ D.tells disk.old }
-    ensures quiet { Quiet (D.seen disk.old) (D.image disk.old) (D.seen disk.new) (D.image disk.new) }
-    ensures text { IsTrue (D.tells disk.old)
-        → IfOk result (λ text. text.items ≡ store_text store.now map.now (D.seen disk.old)) }
-    ensures sound { IsTrue (D.tells disk.old) → homes_fault store.now.generation 4096 (D.seen disk.old) ≡ None
-        → Finds None result }
-    ensures count { D.faults disk.old ≤ D.faults disk.new }
-    ensures cause { store_length ≤ D.known disk.old → HasCause (D.faults disk.old) (D.faults disk.new) result }
+    requires open { store.old.live ≡ true }
+    ensures same_reference { store.new.disk.ghost_name ≡ store.old.disk.ghost_name }
+    ensures kept { KeptDisk D.Disk store.old.disk.now store.new.disk.now }
+    ensures text { IsTrue (D.tells store.old.disk.now)
+        → IfOk result (λ text. text.items ≡ store_text store.old.header map.now (D.seen store.old.disk.now)) }
+    ensures sound { IsTrue (D.tells store.old.disk.now) → store_fault (D.seen store.old.disk.now) ≡ None
+        → StoreFinds None result }
+    ensures cause { StoreCause (D.faults store.old.disk.now) (D.faults store.new.disk.now) result }
 {
     let mut text = Text::new(alloc);
     or_memory(push_header(&mut text, &store.header()))?;
-    push_pages(alloc, disk, store, map, &mut text)?;
+    push_pages(alloc, store, map, &mut text)?;
     or_memory(push_end(&mut text, map.count()))?;
     Ok(text)
 }
@@ -78,23 +67,23 @@ fn print_store<D: Disk>(
 // Adds the texts of the taken pages.
 fn push_pages<D: Disk>(
     alloc: Global,
-    disk: &mut D,
-    store: &Store,
+    store: &mut Store<'_, D>,
     map: &Page,
     text: &mut Text,
 ) -> Result<(), StoreRefusal>
     requires meta { IsTrue (is_of Meta map.now) }
-    ensures tells { D.tells disk.new ≡ D.tells disk.old }
-    ensures quiet { Quiet (D.seen disk.old) (D.image disk.old) (D.seen disk.new) (D.image disk.new) }
-    ensures text { IsTrue (D.tells disk.old) → OnOk result
-        (text.new.items ≡ text.old.items ++ taken_texts store.now.generation map.now 4096 (D.seen disk.old)) }
-    ensures sound { IsTrue (D.tells disk.old) → homes_fault store.now.generation 4096 (D.seen disk.old) ≡ None
-        → Finds None result }
-    ensures count { D.faults disk.old ≤ D.faults disk.new }
-    ensures cause { store_length ≤ D.known disk.old → HasCause (D.faults disk.old) (D.faults disk.new) result }
+    requires open { store.old.live ≡ true }
+    ensures same_reference { store.new.disk.ghost_name ≡ store.old.disk.ghost_name }
+    ensures kept { KeptDisk D.Disk store.old.disk.now store.new.disk.now }
+    ensures text { IsTrue (D.tells store.old.disk.now) → OnOk result
+        (text.new.items
+        ≡ text.old.items ++ taken_texts store.old.header.generation map.now 4096 (D.seen store.old.disk.now)) }
+    ensures sound { IsTrue (D.tells store.old.disk.now) → store_fault (D.seen store.old.disk.now) ≡ None
+        → StoreFinds None result }
+    ensures cause { StoreCause (D.faults store.old.disk.now) (D.faults store.new.disk.now) result }
 {
     for number in 0..PAGES {
-        push_taken(alloc, disk, store, map, number, text)?;
+        push_taken(alloc, store, map, number, text)?;
     }
     Ok(())
 }
@@ -103,28 +92,29 @@ fn push_pages<D: Disk>(
 #[tactic(auto, unfolding(crate::specs::Dumps::taken_text))]
 fn push_taken<D: Disk>(
     alloc: Global,
-    disk: &mut D,
-    store: &Store,
+    store: &mut Store<'_, D>,
     map: &Page,
     number: u16,
     text: &mut Text,
 ) -> Result<(), StoreRefusal>
     requires meta { IsTrue (is_of Meta map.now) }
     requires range { number < 4096 }
-    ensures tells { D.tells disk.new ≡ D.tells disk.old }
-    ensures quiet { Quiet (D.seen disk.old) (D.image disk.old) (D.seen disk.new) (D.image disk.new) }
-    ensures text { IsTrue (D.tells disk.old) → OnOk result
-        (text.new.items ≡ text.old.items ++ taken_text store.now.generation map.now number (D.seen disk.old)) }
-    ensures sound { IsTrue (D.tells disk.old) → homes_fault store.now.generation 4096 (D.seen disk.old) ≡ None
-        → Finds None result }
-    ensures known { D.known disk.new ≡ D.known disk.old }
-    ensures count { D.faults disk.old ≤ D.faults disk.new }
-    ensures cause { store_length ≤ D.known disk.old → HasCause (D.faults disk.old) (D.faults disk.new) result }
+    requires open { store.old.live ≡ true }
+    ensures same_reference { store.new.disk.ghost_name ≡ store.old.disk.ghost_name }
+    ensures header { store.new.header ≡ store.old.header }
+    ensures live { store.new.live ≡ true }
+    ensures kept { KeptDisk D.Disk store.old.disk.now store.new.disk.now }
+    ensures text { IsTrue (D.tells store.old.disk.now) → OnOk result
+        (text.new.items
+        ≡ text.old.items ++ taken_text store.old.header.generation map.now number (D.seen store.old.disk.now)) }
+    ensures sound { IsTrue (D.tells store.old.disk.now) → store_fault (D.seen store.old.disk.now) ≡ None
+        → StoreFinds None result }
+    ensures cause { StoreCause (D.faults store.old.disk.now) (D.faults store.new.disk.now) result }
 {
     if !map.taken(number) {
         return Ok(());
     }
-    let page = store.read_page(disk, number)?;
+    let page = store.read_page(number)?;
     or_memory(push_page(alloc, number, &page, text))
 }
 
@@ -139,8 +129,8 @@ fn push_page(alloc: Global, number: u16, page: &Page, text: &mut Text) -> Result
 // Want of memory as a refusal.
 fn or_memory(pushed: Result<(), Memory>) -> Result<(), StoreRefusal>
     ensures ok { OnOk result (IsOk pushed) }
-    ensures finds { Finds None result }
-    ensures cause { (old : ℕ) (new : ℕ) → HasCause old new result }
+    ensures finds { StoreFinds None result }
+    ensures cause { (old : ℕ) (new : ℕ) → StoreCause old new result }
 {
     match pushed {
         Ok(()) => Ok(()),

@@ -3,6 +3,7 @@
 #![tactic(auto)]
 
 mod dumping;
+mod examples;
 mod faults;
 mod lines;
 mod log_printing;
@@ -10,6 +11,7 @@ mod making;
 mod refusals;
 
 pub use dumping::dump;
+pub use examples::law_blamed_disks;
 pub use faults::DiskFault;
 pub use log_printing::print_logs;
 pub use making::init;

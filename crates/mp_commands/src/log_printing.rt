@@ -1,13 +1,13 @@
 //! The mtrs of the logs.
 
-ghost use Rattle.std.specs.Prelude.{◌≡◌, ◌≢◌, ℕ, ◌+◌, ◌++◌, ◌<◌, ◌≤◌, IsTrue, IfOk, IfErr, OnOk, length, slice_get};
+ghost use Rattle.std.specs.Prelude.{◌≡◌, ◌≢◌, ℕ, ◌+◌, ◌++◌, ◌<◌, ◌≤◌, IsTrue, IfOk, OnOk, length, slice_get};
 ghost use Rattle.std.specs.List.{flat_map};
 ghost use Rattle.mp_report.specs.Lines.{line};
 ghost use Rattle.mp_report.specs.Records.{record_text};
 ghost use Rattle.mp_log.specs.Readers.{log_mtrs};
-ghost use Rattle.mp_log.specs.Reading.{HasCause};
-ghost use Rattle.mp_commands.specs.Fresh.{At};
-ghost use Rattle.mp_commands.specs.LogTexts.{mtr_words, mtr_text, log_words, log_text, read_at, logs_text, fault_below, seen_at, EachTells, IsKept, AreKept, Did, FindsOwn, FindsLog, IsRefused, ExplainsLog, mtrs_words};
+ghost use Rattle.mp_log.specs.Reading.{LogCause};
+ghost use Rattle.mp_files.specs.Nine.{At, seen_at, EachTells, KeptDisk, KeptLogs};
+ghost use Rattle.mp_commands.specs.LogTexts.{mtr_words, mtr_text, log_words, log_text, read_at, logs_text, fault_below, TellBelow, Did, FindsOwn, FindsLogs, IsRefused, mtrs_words};
 
 use crate::lines::{push_named, push_numbered};
 use crate::refusals::LogsRefusal;
@@ -19,17 +19,15 @@ use mp_report::print_record;
 use std::alloc::Global;
 
 /// The text of the logs, of which there are at most eight: the mtrs of each, from primary 1 on, and how many they are.
-/// `Log` comes exactly for the first log that is off the grammar, at its first fault; `LogDisk` only where that log's
-/// count of faults rose; `Memory` where there is none. The disks are read, and keep what they hold. `docs/formats.md` has
-/// the text.
+/// They are read in this order. `Log` comes exactly for the first log that is off the grammar, at its first fault;
+/// `LogDisk` only where the count of faults of that log's disk rose, and those before it are of the grammar; `Memory`
+/// where there is none. The disks are read, and keep what they hold. `docs/formats.md` has the text.
 pub fn print_logs<D: Disk>(alloc: Global, logs: &mut Vec<D>) -> Result<Text, LogsRefusal>
     requires { length logs.old.items ≤ 8 }
-    ensures kept { AreKept D.Disk logs.old.items logs.new.items }
+    ensures kept { KeptLogs D.Disk logs.old.items logs.new.items }
     ensures text { EachTells D.Disk logs.old.items
         → IfOk result (λ text. text.items ≡ logs_text (seen_at D.Disk logs.old.items) (length logs.old.items)) }
-    ensures finds { EachTells D.Disk logs.old.items
-        → FindsLog (fault_below (seen_at D.Disk logs.old.items) (length logs.old.items)) result }
-    ensures cause { IfErr result (λ refusal. ExplainsLog D.Disk refusal logs.old.items logs.new.items) }
+    ensures finds { FindsLogs D.Disk result logs.old.items logs.new.items }
 {
     let mut text = Text::new(alloc);
     let mut total = 0u64;
@@ -107,13 +105,12 @@ fn push_mtrs<D: Disk>(
     primary: u8,
     text: &mut Text,
 ) -> Result<u64, LogRefusal>
-    ensures kept { IsKept D.Disk disk.old disk.new }
+    ensures kept { KeptDisk D.Disk disk.old disk.new }
     ensures text { IsTrue (D.tells disk.old) → IfOk result (λ count.
         (text.new.items ≡ text.old.items ++ flat_map mtr_text (log_mtrs primary (D.seen disk.old)).0)
         × (count ≡ length (log_mtrs primary (D.seen disk.old)).0)) }
     ensures finds { IsTrue (D.tells disk.old) → FindsOwn (log_mtrs primary (D.seen disk.old)).1 result }
-    ensures count { D.faults disk.old ≤ D.faults disk.new }
-    ensures cause { HasCause (D.faults disk.old) (D.faults disk.new) result }
+    ensures cause { LogCause (D.faults disk.old) (D.faults disk.new) result }
 {
     let mut reader = Reader::new(alloc, primary)?;
     for count in 0..u64::MAX {

@@ -1,12 +1,13 @@
--- A front of the output's text was written.
+-- A front of the output's text was written; and what `init` says of status 0 is so.
+use Rattle.std.proofs.Common.{◌∙◌, sym}
 use Rattle.mp_app.specs.declared.commands.Command.TheVariants.{Plain}
-use Rattle.mp_app.specs.Calls.{read_of, call_of}
+use Rattle.mp_app.specs.Calls.{read_of}
 use Rattle.mp_app.specs.Printed.{text_of}
-use Rattle.mp_app.proofs.SaidByCommands.{never_sink}
+use Rattle.mp_app.proofs.SaidByCommands.{never_sink, made_said, done_no_sink}
 use Rattle.mp_app.proofs.plain.plain_call.Goals as goal
 
 pub print-requires : goal.print-requires
-print-requires g c = never_sink (Plain c.args.command.now) (call_of g.S.Source g.D.Disk c.args.source.now c.args.source.now c.args.disks.now c.answer-output.new.disks) _ _
+print-requires g c = never_sink g.D.Disk (Plain c.args.command.now) (read_of g.S.Source c.args.source.now c.args.source.now) c.args.disks.now c.answer-output.new.disks _ _
     (c.answer-output.ensures.says (read_of g.S.Source c.args.source.now c.args.source.now))
 
 pub returns-clause-cut : goal.returns-clause-cut
@@ -16,3 +17,8 @@ returns-clause-cut g c = λ is. record {
   said = c.answer-output.ensures.says (read_of g.S.Source c.args.source.now c.args.source.now);
   written = c.print.ensures.cut is;
 }
+
+pub returns-clause-ready : goal.returns-clause-ready
+returns-clause-ready g c = λ done init.
+    made_said g.D.Disk c.args.command.now (read_of g.S.Source c.args.source.now c.args.source.now) c.args.disks.now c.answer-output.new.disks _ _
+    (c.answer-output.ensures.says (read_of g.S.Source c.args.source.now c.args.source.now)) init (sym (c.print.ensures.written (done_no_sink c.print.result done)).0 ∙ done)

@@ -1,14 +1,15 @@
--- The text has the taken pages so far, the disk is as it was, and no fault of it was forgotten.
-use Rattle.std.proofs.Common.{◌≡◌, ◌++◌, ◌≤◌, IsTrue}
-use Rattle.mp_outside.specs.Disks.{Quiet}
+-- The text has the taken pages so far; the store is open, and its disk only looked at.
+use Rattle.std.proofs.Common.{◌≡◌, ◌++◌, true, IsTrue}
+use Rattle.mp_files.specs.Nine.{KeptDisk}
 use Rattle.mp_commands.specs.Dumps.{taken_texts}
 use Rattle.mp_commands.proofs.dumping.push_pages.Given as goal
 
 abbrev pub invariant-loop-number : goal.invariant-loop-number
 invariant-loop-number g l = let disk = g.D.Disk in record {
-  tells : disk.tells l.disk ≡ disk.tells l.initial.disk;
-  quiet : Quiet (disk.seen l.initial.disk) (disk.image l.initial.disk) (disk.seen l.disk) (disk.image l.disk);
-  text : IsTrue (disk.tells l.initial.disk) → l.text.items ≡ l.initial.text.items ++ taken_texts l.store.generation l.map l.number (disk.seen l.initial.disk);
-  known : disk.known l.disk ≡ disk.known l.initial.disk;
-  counted : disk.faults l.initial.disk ≤ disk.faults l.disk;
+  same_reference : l.store.disk.ghost_name ≡ l.initial.store.disk.ghost_name;
+  header : l.store.header ≡ l.initial.store.header;
+  live : l.store.live ≡ true;
+  kept : KeptDisk disk l.initial.store.disk.now l.store.disk.now;
+  text : IsTrue (disk.tells l.initial.store.disk.now)
+      → l.text.items ≡ l.initial.text.items ++ taken_texts l.initial.store.header.generation l.map l.number (disk.seen l.initial.store.disk.now);
 }

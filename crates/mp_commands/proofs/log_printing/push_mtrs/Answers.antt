@@ -2,15 +2,15 @@
 use Rattle.std.proofs.Common.{Ok, Err, refl, sym, ap, subst, arith}
 use Rattle.mp_log.specs.Readers.{ReaderView, Remains, GivesNext, log_mtrs}
 use Rattle.mp_log.proofs.Given.{fresh_remains}
-use Rattle.mp_commands.proofs.LogTexts.{kept_same, kept_on, next_gives, refusal_finds, text_on, count_on, text_end, count_end}
+use Rattle.mp_files.proofs.Nines.{KeptDisk-refl, KeptDisk-trans}
+use Rattle.mp_commands.proofs.LogTexts.{next_gives, refusal_finds, text_on, count_on, text_end, count_end}
 use Rattle.mp_commands.proofs.log_printing.push_mtrs.Goals as goal
 
 pub loop-count-init : goal.loop-count-init
 loop-count-init g c =
     let file = g.D.Disk.seen c.args.disk.now in
     let all = log_mtrs c.args.primary file in (
-      kept_same g.D.Disk c.args.disk.now,
-      omega arith,
+      KeptDisk-refl g.D.Disk c.args.disk.now,
       ap (λ (r : ReaderView). r.state) c.in_ok-reader.ensures,
       λ tells. (all.0, subst (λ (r : ReaderView). Remains r file all.0 all.1) (sym c.in_ok-reader.ensures) (fresh_remains c.args.primary file), refl, omega arith),
     )
@@ -21,7 +21,7 @@ returns-in-Ok-None-clause-text g c tells =
     let file = d.seen c.args.disk.now in
     let fault = (log_mtrs c.args.primary file).1 in
     let inv = c.loop-count.invariant in
-    let left = inv.3 tells in
+    let left = inv.2 tells in
     let end = subst (λ found. GivesNext file left.0 fault c.next.new.self (Ok found)) c.in-Ok-None.field-0-is (next_gives d c.args.disk.now c.loop-count.disk c.loop-count.reader c.next.new.self left.0 fault (Ok c.in-Ok-None.field-0) inv.0 c.in-Ok-None.ensures.gives tells left.1) in
     (text_end c.loop-count.text.items _ left.0 end.0 left.2, count_end c.loop-count.count _ left.0 end.0 left.3)
 
@@ -31,7 +31,7 @@ returns-in-Ok-None-clause-finds g c tells =
     let file = d.seen c.args.disk.now in
     let fault = (log_mtrs c.args.primary file).1 in
     let inv = c.loop-count.invariant in
-    let left = inv.3 tells in
+    let left = inv.2 tells in
     let end = subst (λ found. GivesNext file left.0 fault c.next.new.self (Ok found)) c.in-Ok-None.field-0-is (next_gives d c.args.disk.now c.loop-count.disk c.loop-count.reader c.next.new.self left.0 fault (Ok c.in-Ok-None.field-0) inv.0 c.in-Ok-None.ensures.gives tells left.1) in
     end.1
 
@@ -41,7 +41,7 @@ returns-in-Err-clause-finds g c tells =
     let file = d.seen c.args.disk.now in
     let fault = (log_mtrs c.args.primary file).1 in
     let inv = c.loop-count.invariant in
-    let left = inv.3 tells in
+    let left = inv.2 tells in
     refusal_finds file left.0 fault c.next.new.self c.in-Err.refusal (next_gives d c.args.disk.now c.loop-count.disk c.loop-count.reader c.next.new.self left.0 fault (Err c.in-Err.refusal) inv.0 c.in-Err.ensures.gives tells left.1)
 
 pub loop-count-preserved : goal.loop-count-preserved
@@ -51,11 +51,10 @@ loop-count-preserved g c =
     let fault = (log_mtrs c.args.primary file).1 in
     let inv = c.loop-count.invariant in
     let mtr = c.in-Ok-Some.mtr in (
-      kept_on d c.args.disk.now c.loop-count.disk c.next.new.disk inv.0 (record { tells = c.next.ensures.tells; quiet = c.next.ensures.quiet }),
-      omega (arith, inv.1, c.next.ensures.count),
+      KeptDisk-trans d c.args.disk.now c.loop-count.disk c.next.new.disk inv.0 (record { tells = c.next.ensures.tells; quiet = c.next.ensures.quiet; count = c.next.ensures.count }),
       c.in-Ok-Some.ensures.goes_on mtr (ap Ok c.in-Ok-Some.field-0-is),
       λ tells.
-          let left = inv.3 tells in
+          let left = inv.2 tells in
           let more = subst (λ found. GivesNext file left.0 fault c.next.new.self (Ok found)) c.in-Ok-Some.field-0-is (next_gives d c.args.disk.now c.loop-count.disk c.loop-count.reader c.next.new.self left.0 fault (Ok c.in-Ok-Some.field-0) inv.0 c.in-Ok-Some.ensures.gives tells left.1) in
           (more.0, more.2, text_on c.loop-count.text.items c.push_mtr.new.text.items _ mtr left.0 more.0 c.in_ok-push_mtr-in-Ok-Some.ensures more.1 left.2, count_on c.loop-count.count _ mtr left.0 more.0 more.1 left.3),
     )

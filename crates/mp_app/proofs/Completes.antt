@@ -1,0 +1,122 @@
+-- Where nothing failed and what the command reads is of its grammar, what is said is that it is done, or that there was no memory.
+use Rattle.std.proofs.Common.{◌≡◌, ◌∙◌, ◌≤◌, ◌⊎◌, ℕ, List, length, Option, Some, None, IsTrue, inl, inr, refl, sym, ap, subst, arith}
+use Rattle.std.proofs.lemmas.List.{take_all}
+use Rattle.mp_outside.specs.declared.disks.Disk.{Ghosts}
+use Rattle.mp_files.specs.declared.disks.Disks.{Disks}
+use Rattle.mp_files.specs.Nine.{seen_at}
+use Rattle.mp_commands.specs.LogTexts.{LogFault, fault_below, TellBelow}
+use Rattle.mp_commands.proofs.LogsBelow.{fault_stays, all_below}
+use Rattle.mp_commands.specs.Fresh.{Explains}
+use Rattle.mp_commands.specs.declared.faults.DiskFault.{DiskFault}
+use Rattle.mp_commands.specs.declared.faults.DiskFault.TheVariants.{Store as StoreFailed, Log as LogFailed}
+use Rattle.mp_script.proofs.ScriptLaws.{spelled-no_fault, spelled-once}
+use Rattle.mp_script.specs.declared.statements.Script.{Script}
+use Rattle.mp_script.specs.OneSession.{IsPlain}
+use Rattle.mp_script.specs.Spelling.{Spells, IsSameScript}
+use Rattle.mp_app.specs.declared.commands.Command.{Command}
+use Rattle.mp_app.specs.declared.commands.Command.TheVariants.{Session, Plain}
+use Rattle.mp_app.specs.declared.commands.PlainCommand.TheVariants.{Init, Dump, Logs}
+use Rattle.mp_app.specs.declared.commands.SessionCommand.TheVariants.{Step}
+use Rattle.mp_app.specs.declared.status.Status.{Status}
+use Rattle.mp_app.specs.declared.status.Status.TheVariants.{Done, Usage, Script as BadScript, Store, Stopped, Source, Sink, Disk, Memory}
+use Rattle.mp_app.specs.Calls.{SourceUse, ReadUpToTheBound}
+use Rattle.mp_app.specs.Commands.{Names}
+use Rattle.mp_app.specs.Complete.{HasScript, NothingRose, IsInOrder}
+use Rattle.mp_app.specs.Outcomes.{RefusesItsScript, HasFault, IsNotBuilt, StepSays, DumpSays, InitSays, LogsSays, CommandSays, Says}
+use Rattle.mp_app.proofs.NamedOnce.{named_once}
+
+-- done, or no memory
+abbrev IsAnswered : Status → Type 0
+IsAnswered status = (status ≡ Done) ⊎ (status ≡ Memory)
+
+no_some : {T : Type 0} {x : T} → ◌≡◌ {A = Option T} None (Some x) → ⊥
+no_some e = cc
+
+none_some : {T : Type 0} {x : T} {m : Option T} → m ≡ None → m ≡ Some x → ⊥
+none_some none some = no_some (sym none ∙ some)
+
+same_plain : (one other : Script) → IsSameScript one other → IsPlain one → IsPlain other
+same_plain one other same plain = record { primaries = same.primaries ∙ plain.primaries; sessions = subst (λ s. length s ≤ 1) (sym same.sessions) plain.sessions }
+
+-- what was read up to the bound of bytes that spell a script are these bytes
+whole_read : (source : SourceUse) (has : HasScript source.left) (bytes : List ℕ) → ReadUpToTheBound source.left bytes → bytes ≡ has.bytes
+whole_read source has bytes read = subst (λ left. ReadUpToTheBound left bytes) has.told read ∙ take_all 1048577 has.bytes (omega (arith, has.spelled.size))
+
+-- so they aren't refused
+not_refused : (source : SourceUse) (text : List ℕ) → HasScript source.left → RefusesItsScript source text → ⊥
+not_refused source text has refuses = by_cause refuses.refused
+  where
+    spells : Spells refuses.bytes has.script
+    spells = subst (λ bytes. Spells bytes has.script) (sym (whole_read source has refuses.bytes refuses.read)) has.spelled
+
+    by_cause : HasFault refuses.bytes text ⊎ IsNotBuilt refuses.bytes text → ⊥
+    by_cause (inl fault) = none_some (spelled-no_fault refuses.bytes has.script spells) fault.first
+    by_cause (inr several) = several.several (same_plain has.script several.script (spelled-once refuses.bytes has.script several.script spells several.spelled) has.plain)
+
+module _ {D : Type 0} (g : Ghosts D) (source : SourceUse) (sink sink_after : ℕ) (old new : Disks D) (nothing : NothingRose g source sink sink_after old new) where
+  step_answered : HasScript source.left → (status : Status) (text : List ℕ) → StepSays source status text → IsAnswered status
+  step_answered has Done text says = inl refl
+  step_answered has Usage text says = absurd says
+  step_answered has BadScript text says = absurd (not_refused source text has says)
+  step_answered has Store text says = absurd says
+  step_answered has Stopped text says = absurd says
+  step_answered has Source text says = absurd (nothing.no_source says.0)
+  step_answered has Sink text says = absurd says
+  step_answered has Disk text says = absurd says
+  step_answered has Memory text says = inr refl
+
+  dump_answered : IsInOrder g (Plain Dump) source old → (status : Status) (text : List ℕ) → DumpSays g old.store new.store status text → IsAnswered status
+  dump_answered order Done text says = inl refl
+  dump_answered order Usage text says = absurd says
+  dump_answered order BadScript text says = absurd says
+  dump_answered order Store text says = absurd (none_some order.1 (says.first order.0))
+  dump_answered order Stopped text says = absurd says
+  dump_answered order Source text says = absurd says
+  dump_answered order Sink text says = absurd says
+  dump_answered order Disk text says = absurd (nothing.no_store says.0)
+  dump_answered order Memory text says = inr refl
+
+  no_disk_rose : (fault : DiskFault) → Explains g fault old new → ⊥
+  no_disk_rose StoreFailed rose = nothing.no_store rose
+  no_disk_rose (LogFailed primary) rose = nothing.no_log primary rose.0
+
+  init_answered : (status : Status) (text : List ℕ) → InitSays g old new status text → IsAnswered status
+  init_answered Done text says = inl refl
+  init_answered Usage text says = absurd says
+  init_answered BadScript text says = absurd says
+  init_answered Store text says = absurd says
+  init_answered Stopped text says = absurd says
+  init_answered Source text says = absurd says
+  init_answered Sink text says = absurd says
+  init_answered Disk text says = absurd (no_disk_rose says.fault says.rose)
+  init_answered Memory text says = inr refl
+
+  -- a fault of the first logs is one of all
+  no_later_fault : (files : ℕ → List ℕ) (few many : ℕ) (fault : LogFault) → few ≤ many → fault_below files many ≡ None → fault_below files few ≡ Some fault → ⊥
+  no_later_fault files few many fault le none some = none_some none (fault_stays files few many fault some le)
+
+  logs_answered : IsInOrder g (Plain Logs) source old → (status : Status) (text : List ℕ) → LogsSays g old.logs.items new.logs.items status text → IsAnswered status
+  logs_answered order Done text says = inl refl
+  logs_answered order Usage text says = absurd says
+  logs_answered order BadScript text says = absurd says
+  logs_answered order Store text says =
+      let first = says.first in
+      let tells : TellBelow g says.fault.primary old.logs.items = all_below g says.fault.primary old.logs.items order.0 in
+      absurd (no_later_fault (seen_at g old.logs.items) says.fault.primary (length old.logs.items) says.fault (omega (arith, first.its, first.there)) order.1 (first.first tells))
+  logs_answered order Stopped text says = absurd says
+  logs_answered order Source text says = absurd says
+  logs_answered order Sink text says = absurd says
+  logs_answered order Disk text says = absurd (nothing.no_log says.primary says.failed.rose)
+  logs_answered order Memory text says = inr refl
+
+  command_answered : (command : Command) → IsInOrder g command source old → (status : Status) (text : List ℕ) → CommandSays g command source old new status text → IsAnswered status
+  command_answered (Session Step) order = step_answered order
+  command_answered (Plain Init) order = init_answered
+  command_answered (Plain Dump) order = dump_answered order
+  command_answered (Plain Logs) order = logs_answered order
+
+  -- what is said where the words name the command
+  pub completes : (words : List (List ℕ)) (command : Command) → Names words command → IsInOrder g command source old → (status : Status) (text : List ℕ) → Says g words source old new status text → IsAnswered status
+  completes words command names order status text (inl none) = absurd (none.0 command names)
+  completes words command names order status text (inr said) =
+      command_answered command order status text (subst (λ (k : Command). CommandSays g k source old new status text) (named_once words said.0 command said.1 names) said.2)

@@ -1,0 +1,65 @@
+-- The words name the command that is called, and what it says is said; without one the disks are left alone.
+use Rattle.std.proofs.Common.{◌∙◌, map, string_bytes, refl, sym, subst}
+use Rattle.mp_files.specs.Nine.{KeptNine, StillNine}
+use Rattle.mp_files.proofs.Nines.{KeptNine-refl, StillNine-refl}
+use Rattle.mp_app.specs.declared.commands.Command.TheVariants.{Session, Plain}
+use Rattle.mp_app.specs.declared.commands.PlainCommand.{PlainCommand}
+use Rattle.mp_app.specs.declared.commands.PlainCommand.TheVariants.{Init}
+use Rattle.mp_app.specs.Commands.{Names}
+use Rattle.mp_app.specs.Calls.{read_of}
+use Rattle.mp_app.specs.Printed.{text_of}
+use Rattle.mp_app.proofs.NamedOnce.{plain_once, session_once, session_not_plain}
+use Rattle.mp_app.proofs.SaidByCommands.{front_said, refusal_said, refusal_not_done, done_no_sink}
+use Rattle.mp_app.proofs.top.call.Goals as goal
+
+pub returns-in-Ok-Session-clause-cut : goal.returns-in-Ok-Session-clause-cut
+returns-in-Ok-Session-clause-cut g c = λ is.
+    front_said g.D.Disk (map string_bytes c.args.words.now) (read_of g.S.Source c.args.source.now c.session_call.new.source) c.args.disks.now c.session_call.new.disks (Session c.in-Ok-Session.command) _ _
+    (rw c.in-Ok-Session.field-0-is at c.in-Ok-Session.ensures) (c.session_call.ensures.cut is)
+
+pub returns-in-Ok-Plain-clause-cut : goal.returns-in-Ok-Plain-clause-cut
+returns-in-Ok-Plain-clause-cut g c = λ is.
+    front_said g.D.Disk (map string_bytes c.args.words.now) (read_of g.S.Source c.args.source.now c.plain_call.new.source) c.args.disks.now c.plain_call.new.disks (Plain c.in-Ok-Plain.command) _ _
+    (rw c.in-Ok-Plain.field-0-is at c.in-Ok-Plain.ensures) (c.plain_call.ensures.cut is)
+
+pub returns-in-Err-clause-cut : goal.returns-in-Err-clause-cut
+returns-in-Err-clause-cut g c = λ is. record {
+  status = c.words_refusal.result.status;
+  text = text_of c.words_refusal.result.printed;
+  said = refusal_said g.D.Disk (map string_bytes c.args.words.now) (read_of g.S.Source c.args.source.now c.args.source.now) c.args.disks.now c.args.disks.now c.in-Err.refusal c.words_refusal.result c.in-Err.ensures c.words_refusal.ensures;
+  written = c.print.ensures.cut is;
+}
+
+-- the source is read by a command of sessions alone
+pub returns-in-Ok-Session-clause-unread : goal.returns-in-Ok-Session-clause-unread
+returns-in-Ok-Session-clause-unread g c = λ not_step.
+    absurd (not_step (session_once (map string_bytes c.args.words.now) c.in-Ok-Session.command (rw c.in-Ok-Session.field-0-is at c.in-Ok-Session.ensures)))
+
+-- and the disks are touched by the others alone
+pub returns-in-Ok-Session-clause-nine : goal.returns-in-Ok-Session-clause-nine
+returns-in-Ok-Session-clause-nine g c = subst (λ disks. StillNine g.D.Disk c.args.disks.now disks) (sym c.session_call.ensures.untouched) (StillNine-refl g.D.Disk c.args.disks.now)
+
+pub returns-in-Err-clause-nine : goal.returns-in-Err-clause-nine
+returns-in-Err-clause-nine g c = StillNine-refl g.D.Disk c.args.disks.now
+
+pub returns-in-Ok-Session-clause-untouched : goal.returns-in-Ok-Session-clause-untouched
+returns-in-Ok-Session-clause-untouched g c = λ not_init. subst (λ disks. KeptNine g.D.Disk c.args.disks.now disks) (sym c.session_call.ensures.untouched) (KeptNine-refl g.D.Disk c.args.disks.now)
+
+pub returns-in-Err-clause-untouched : goal.returns-in-Err-clause-untouched
+returns-in-Err-clause-untouched g c = λ not_init. KeptNine-refl g.D.Disk c.args.disks.now
+
+pub returns-in-Ok-Session-clause-ready : goal.returns-in-Ok-Session-clause-ready
+returns-in-Ok-Session-clause-ready g c = λ done init. session_not_plain (map string_bytes c.args.words.now) c.in-Ok-Session.command Init (rw c.in-Ok-Session.field-0-is at c.in-Ok-Session.ensures) init
+
+pub returns-in-Ok-Plain-clause-ready : goal.returns-in-Ok-Plain-clause-ready
+returns-in-Ok-Plain-clause-ready g c = λ done init.
+    c.plain_call.ensures.ready done (plain_once (map string_bytes c.args.words.now) c.in-Ok-Plain.command Init (rw c.in-Ok-Plain.field-0-is at c.in-Ok-Plain.ensures) init)
+
+pub returns-in-Ok-Plain-clause-untouched : goal.returns-in-Ok-Plain-clause-untouched
+returns-in-Ok-Plain-clause-untouched g c = λ not_init.
+    let named = rw c.in-Ok-Plain.field-0-is at c.in-Ok-Plain.ensures in
+    c.plain_call.ensures.untouched (λ is. not_init (subst (λ (k : PlainCommand). Names (map string_bytes c.args.words.now) (Plain k)) is named))
+
+pub returns-in-Err-clause-ready : goal.returns-in-Err-clause-ready
+returns-in-Err-clause-ready g c = λ done init.
+    refusal_not_done c.in-Err.refusal c.words_refusal.result c.words_refusal.ensures (sym (c.print.ensures.written (done_no_sink c.print.result done)).0 ∙ done)

@@ -1,0 +1,40 @@
+-- When a command must do what it is for, or want memory: nothing failed, and what it reads is of its grammar.
+use Rattle.std.specs.Prelude.{◌≡◌, ℕ, List, Option, Some, None, IsTrue, length}
+use Rattle.mp_outside.specs.Faults.{Rose}
+use Rattle.mp_outside.specs.declared.disks.Disk.{Ghosts}
+use Rattle.mp_files.specs.declared.disks.Disks.{Disks}
+use Rattle.mp_files.specs.Nine.{LogRose, EachTells, seen_at}
+use Rattle.mp_commands.specs.LogTexts.{fault_below}
+use Rattle.mp_script.specs.declared.statements.Script.{Script}
+use Rattle.mp_script.specs.OneSession.{IsPlain}
+use Rattle.mp_script.specs.Spelling.{Spells}
+use Rattle.mp_store.specs.StoreFiles.{store_fault}
+use Rattle.mp_app.specs.declared.commands.Command.{Command}
+use Rattle.mp_app.specs.declared.commands.Command.TheVariants.{Session, Plain}
+use Rattle.mp_app.specs.declared.commands.PlainCommand.TheVariants.{Init, Dump, Logs}
+use Rattle.mp_app.specs.declared.commands.SessionCommand.TheVariants.{Step}
+use Rattle.mp_app.specs.Calls.{SourceUse}
+
+-- what the source has left is told, and it spells a script of one primary and one session at most
+pub record HasScript (left : Option (List ℕ)) : Type 0 where
+  pub bytes : List ℕ
+  pub script : Script
+  pub told : left ≡ Some bytes
+  pub spelled : Spells bytes script
+  pub plain : IsPlain script
+
+module _ {D : Type 0} (g : Ghosts D) where
+  -- no count of faults rose: not the source's, nor the sink's, nor that of a disk
+  pub record NothingRose (source : SourceUse) (sink sink_after : ℕ) (old new : Disks D) : Type 0 where
+    pub no_source : ¬ Rose source.faults source.faults_after
+    pub no_sink : ¬ Rose sink sink_after
+    pub no_store : ¬ Rose (g.faults old.store) (g.faults new.store)
+    pub no_log : (primary : ℕ) → ¬ LogRose g primary old new
+
+  -- what a command reads is of its grammar; `init` reads nothing
+  abbrev pub IsInOrder : Command → SourceUse → Disks D → Type 0
+  IsInOrder (Session Step) source disks = HasScript source.left
+  IsInOrder (Plain Init) source disks = Unit {0}
+  IsInOrder (Plain Dump) source disks = IsTrue (g.tells disks.store) × (store_fault (g.seen disks.store) ≡ None)
+  IsInOrder (Plain Logs) source disks = EachTells g disks.logs.items
+      × (fault_below (seen_at g disks.logs.items) (length disks.logs.items) ≡ None)
