@@ -1,45 +1,50 @@
 #!/bin/sh
-# Times the built programs from outside. Build them first: ./mp step < examples/first.mps, and rt run in crates/mp_bench
+# Times the built programs from outside, in a temporary folder. The launcher builds `mp` first where that is needed;
+# `mp_bench` is built by `rt run` in crates/mp_bench.
 set -eu
-cd "$(dirname "$0")/.."
+root=$(cd "$(dirname "$0")/.." && pwd)
+mp=$root/crates/mp_app/out/mp_app
+bench=$root/crates/mp_bench/out/mp_bench
 folder=$(mktemp -d)
 trap 'rm -rf "$folder"' EXIT
+cd "$folder"
+
+"$root/mp" init
+if [ ! -x "$bench" ]; then
+    echo "mp_bench isn't built: rt run in crates/mp_bench builds it" >&2
+    exit 1
+fi
 
 # one transaction that puts 9,998 keys, in an order that isn't ascending
 {
     printf 'primaries 1\nsession s1 on 1\ns1 begin\n'
     awk 'BEGIN { for (i = 1; i <= 9998; i++) print "s1 put", (i * 7919) % 1000003, "value" i }'
     printf 's1 commit\n'
-} > "$folder/puts.mps"
-
-time_of() {
-    start=$(date +%s%N)
-    "$@" > "$folder/out"
-    end=$(date +%s%N)
-    echo "$(( (end - start) / 1000000 )) ms"
-}
+} > puts.mps
 
 # as long as a script may be: 10,000 statements, and comments up to 1,048,576 bytes
 {
     printf 'primaries 1\nsession s1 on 1\n'
     awk 'BEGIN { for (i = 0; i < 5000; i++) print "s1 begin\ns1 commit" }'
     yes '# a comment of thirty-two bytes  '
-} | head -c 1048576 > "$folder/longest.mps"
+} | head -c 1048576 > longest.mps
 
-step_from() { ./mp step < "$1"; }
+# what a run prints goes into `out`, and its wall-clock time is printed behind the words
+timed() {
+    words=$1
+    shift
+    start=$(date +%s%N)
+    "$@" > out
+    end=$(date +%s%N)
+    echo "$words: $(( (end - start) / 1000000 )) ms"
+    tail -n 1 out
+}
 
-echo "step, 10,000 statements, 9,998 puts of distinct keys: $(time_of step_from "$folder/puts.mps")"
-tail -n 1 "$folder/out"
-echo "step, a script of 1,048,576 bytes with 10,000 statements: $(time_of step_from "$folder/longest.mps")"
-tail -n 1 "$folder/out"
+step_from() { "$mp" step < "$1"; }
 
-echo "mp_bench, 40,960 full leaves filled, written and read: $(time_of crates/mp_bench/out/mp_bench pages 40960)"
-cat "$folder/out"
-
-echo "mp_bench, 100,000 mtrs of four records made, written and read: $(time_of crates/mp_bench/out/mp_bench mtrs 100000)"
-cat "$folder/out"
-
-echo "mp_bench, 100 times 200 transactions over a shared table, by one thread: $(time_of crates/mp_bench/out/mp_bench commits 100)"
-cat "$folder/out"
-echo "mp_bench, 100 times 800 transactions over a shared table, by four threads: $(time_of crates/mp_bench/out/mp_bench threads 100)"
-cat "$folder/out"
+timed "step, 10,000 statements, 9,998 puts of distinct keys" step_from puts.mps
+timed "step, a script of 1,048,576 bytes with 10,000 statements" step_from longest.mps
+timed "mp_bench, 40,960 full leaves filled, written and read" "$bench" pages 40960
+timed "mp_bench, 100,000 mtrs of four records made, written and read" "$bench" mtrs 100000
+timed "mp_bench, 100 times 200 transactions over a shared table, by one thread" "$bench" commits 100
+timed "mp_bench, 100 times 800 transactions over a shared table, by four threads" "$bench" threads 100
