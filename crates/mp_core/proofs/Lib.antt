@@ -1,3 +1,5 @@
+pub mod Pages
+pub mod Records
 pub mod Law
 pub mod Placed
 mod Regions

@@ -1,3 +1,9 @@
+pub mod Contents
+pub mod OwnMtrs
+pub mod Commits
+pub mod MtrKinds
+pub mod CoreExtends
 pub mod World
 pub mod Invariant
 pub mod CoreLaws
+pub mod CoreExamples

@@ -1,5 +1,6 @@
 //! The joint core: what all nodes know and do together, as one abstract machine over the words of the shared table. Its
-//! components are crates of their own, side by side; so far there is one, that of transactions.
+//! components are crates of their own, side by side: the transactions, and the pages. What the conditions of one ask of
+//! another stands here.
 #![tactic(auto)]
 
 mod event;
@@ -9,7 +10,7 @@ mod part;
 mod words;
 
 pub use event::CoreEvent;
-pub use laws::law_inv;
+pub use laws::{law_core_examples, law_inv};
 pub use opening::CoreOpening;
 pub use part::CorePart;
 pub use words::{

@@ -4,3 +4,5 @@ pub mod Codecs
 pub mod PageAgain
 pub mod PageSpelling
 pub mod Steps
+mod FreshPages
+pub mod Sent

@@ -2,3 +2,4 @@ pub mod Grammar
 pub mod Shown
 pub mod Pagers
 pub mod LendingPages
+pub mod FreshPages

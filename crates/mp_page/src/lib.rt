@@ -5,6 +5,7 @@
 mod bits;
 mod body;
 mod changing;
+mod fresh;
 mod page;
 mod pager;
 mod pages;
@@ -21,6 +22,3 @@ pub use pager::Pager;
 pub use pages::Pages;
 pub use reading::read_page;
 pub use writing::write_page;
-
-#[cfg(test)]
-mod tests;

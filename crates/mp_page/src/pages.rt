@@ -1,10 +1,12 @@
 //! The list of all pages.
 
-ghost use Rattle.std.specs.Prelude.{◌≡◌, ◌+◌, ◌<◌, ◌≤◌, [], ◌∷◌, ◌++◌, length, slice_get, slice_set, Some, IsOk, IsSome, OnOk, OnErr, ◌↔◌};
+ghost use Rattle.std.specs.Prelude.{◌≡◌, ◌+◌, ◌<◌, ◌≤◌, [], ◌∷◌, ◌++◌, length, slice_get, slice_set, Some, IfOk, IsOk, IsSome, OnOk, OnErr, ◌↔◌};
 ghost use Rattle.std.specs.Borrow.{sem};
 ghost use Rattle.std.specs.Option.{option_to_list};
+ghost use Rattle.mp_page.specs.FreshPages.{AreFreshPages};
 ghost use Rattle.mp_page.specs.LendingPages.{LendsPage};
 
+use crate::fresh::{blank_pages, fresh_meta_page, fresh_root_page};
 use crate::page::Page;
 use mp_model::Memory;
 use std::alloc::Global;
@@ -35,6 +37,25 @@ impl Pages {
         Pages {
             items: Vec::new(alloc),
         }
+    }
+
+    /// All 4,096 pages of a fresh store, with LLSN 0: page 0 says that pages 0 and 1 are taken, page 1 is an empty root, and
+    /// the others are blank.
+    pub fn fresh(alloc: Global) -> Result<Pages, Memory>
+        ensures { IfOk result (λ pages. AreFreshPages pages.items) }
+    {
+        let mut items = blank_pages(alloc, 4_096)?;
+        items[0] = fresh_meta_page();
+        items[1] = fresh_root_page();
+        Ok(Pages { items })
+    }
+
+    /// The pages as a `Vec`. It takes no memory.
+    pub fn into_items(self) -> Vec<Page>
+        ensures { result.items ≡ self.items }
+    {
+        let Pages { items } = self;
+        items
     }
 
     /// Adds a page at the end. A refusal changes nothing.

@@ -1,5 +1,6 @@
 -- What steps store and draw fits its word.
-use Rattle.std.proofs.Common.{◌≡◌, ℕ, ◌+◌, ◌%◌, ◌^◌, ◌<◌, List, ap, ◌∙◌, subst, arith}
+use Rattle.std.proofs.Common.{◌≡◌, ℕ, ◌+◌, ◌%◌, ◌^◌, ◌<◌, Bool, true, false, if◌then◌else◌, List, refl, ap, ◌∙◌, subst, arith}
+use prog.Atomic.{either}
 use Rattle.mp_machine.specs.Machine.{run, AllAllowed}
 use Rattle.atomic_table.specs.Table.{Me}
 use Rattle.mp_machine.specs.View.{View}
@@ -22,6 +23,11 @@ use Rattle.mp_core.specs.declared.event.CoreEvent.TheVariants.{Trx}
 use Rattle.mp_core.specs.World.{Frame, core_part, core_node_of, CoreAllowed, core}
 use Rattle.mp_core.specs.Invariant.{NumbersFit}
 use Rattle.mp_core.proofs.Law.{law, keeps_inv}
+
+-- a compare and exchange writes what its event makes of the word
+pub exchanged : (b : Bool) (new k : ℕ) → either b new k ≡ (if b then new else k)
+exchanged true new k = refl
+exchanged false new k = refl
 
 module _ (o : CoreOpening) (fair : NumbersFit o) where
   -- the TSO is far below 2^64, so it goes up by one

@@ -1,8 +1,17 @@
 pub mod Kept
+pub mod Noted
+pub mod FramesOut
 pub mod Steps
+pub mod FreshStores
+pub mod PageCalls
+pub mod LockSeen
+pub mod PageTold
+pub mod FrameTold
 pub mod Fits
 pub mod Numbered
 pub mod Holding
 pub mod Sent
+mod Closing
+mod FirstWords
 mod Begins
 mod Cuts

@@ -1,21 +1,25 @@
 -- What contracts see of a node, and what a step makes of it.
-use Rattle.std.specs.Prelude.{◌≡◌, ℕ, ◌+◌, ◌==◌, List, [], ◌∷◌, Some, None, Option}
+use Rattle.std.specs.Prelude.{◌≡◌, ℕ, ◌+◌, ◌==◌, if◌then◌else◌, List, [], ◌∷◌, drop, Some, None, Option}
 use Rattle.atomic_table.specs.Seated.{TableId}
 use Rattle.mp_machine.specs.Machine.{run, AllAllowed}
 use Rattle.mp_machine.specs.View.{View, part_in, with_part, only, without, joined, ViewAgrees}
 use Rattle.mp_machine.specs.Rule.{Backed, all_parts}
 use Rattle.mp_core_trx.specs.declared.opening.Base.{Base}
 use Rattle.mp_core_trx.specs.Events.{IsNode}
+use Rattle.mp_cells.specs.declared.records.Mtr.{Mtr}
+use Rattle.mp_cells.specs.PageView.{PageView}
+use Rattle.mp_core_pages.specs.declared.event.PagesEvent.{PagesEvent}
+use Rattle.mp_core_pages.specs.declared.event.PagesEvent.TheVariants.{LockWord, UnlockWord, TakeFrame, GiveFrame, StoreLlsn, StoreDurable}
 use Rattle.mp_core.specs.declared.opening.CoreOpening.{CoreOpening}
 use Rattle.mp_core.specs.declared.part.CorePart.{CorePart}
 use Rattle.mp_core.specs.declared.event.CoreEvent.{CoreEvent}
-use Rattle.mp_core.specs.declared.event.CoreEvent.TheVariants.{Trx}
+use Rattle.mp_core.specs.declared.event.CoreEvent.TheVariants.{Trx, Pages}
 use Rattle.mp_core.specs.World.{Note, core_node_of, core_place_of, core_content, core_part, core_made, CoreAllowed, core}
 use Rattle.mp_core.specs.Invariant.{NumbersFit}
 
 -- what a run begins from
-abbrev pub opening_of : Base → ℕ → ℕ → CoreOpening
-opening_of base primaries begins = record { trx = record { base = base; primaries = primaries; begins = begins } }
+abbrev pub opening_of : Base → ℕ → ℕ → List PageView → CoreOpening
+opening_of base primaries begins pages = record { trx = record { base = base; primaries = primaries; begins = begins }; pages = pages }
 
 -- which table it is, and what its run began from
 pub record Run : Type 0 where
@@ -56,9 +60,28 @@ abbrev pub changed_part : View CorePart → ℕ → (CorePart → CorePart) → 
 changed_part v n f (Some p) = with_part v n (f p)
 changed_part v n f None = v
 
--- the pages whose frames a node carries after a step that found this word
+-- the node after a change of the part of one primary, which it holds; no other part changes
+abbrev pub node_with : NodeView → ℕ → (CorePart → CorePart) → NodeView
+node_with n p f = record n { parts = changed_part n.parts p f (part_in n.parts p) }
+
+-- the node holds the parts of all primaries
+abbrev pub HoldsAll : NodeView → Type 0
+HoldsAll n = (k : ℕ) → IsNode n.run.opening.trx k → (q : CorePart) × (part_in n.parts k ≡ Some q)
+
+-- the pages whose frames a node carries after a step on pages that found this word: one more where the frame was at
+-- home, or without the one taken last
+abbrev pub frames_turned : PagesEvent PageView Mtr → ℕ → List ℕ → List ℕ
+frames_turned (LockWord n k old new) found pages = pages
+frames_turned (UnlockWord n k) found pages = pages
+frames_turned (TakeFrame n k) found pages = if found == 0 then k ∷ pages else pages
+frames_turned (GiveFrame n k y) found pages = drop 1 pages
+frames_turned (StoreLlsn n m) found pages = pages
+frames_turned (StoreDurable n v) found pages = pages
+
+-- the same after any step
 abbrev pub frames_after : CoreEvent → ℕ → List ℕ → List ℕ
 frames_after (Trx e) found pages = pages
+frames_after (Pages e) found pages = frames_turned e found pages
 
 -- the node after a step that found this word and made this note: the part of the step's primary is what the step makes of it
 abbrev pub node_after : NodeView → CoreEvent → ℕ → Note → NodeView
@@ -73,7 +96,7 @@ pub record Reached (n : NodeView) : Type 0 where
 pub record Behind (o : CoreOpening) (e : CoreEvent) (before after : View CorePart) (found : ℕ) (x : Note) : Type 0 where
   pub events : List CoreEvent
   pub allowed : AllAllowed (core o) (e ∷ events)
-  pub found_is : core_content (run (core o) events) (core_place_of e) ≡ found
+  pub found_is : core_content o (run (core o) events) (core_place_of e) ≡ found
   pub noted : (core o).note (run (core o) events) e ≡ x
   pub agreed : ViewAgrees (core_part (run (core o) events)) before
   pub agrees : ViewAgrees (core_part (run (core o) (e ∷ events))) after

@@ -1,16 +1,12 @@
 -- Which slot a node uses next, and what it keeps for that of the parts that it holds.
-use Rattle.std.specs.Prelude.{◌≡◌, ℕ, ◌≤◌, nat_lt, List, length, Option, Some, None, if◌then◌else◌, slice_index_or}
-use Rattle.atomic_table.specs.Seated.{TableId}
-use Rattle.mp_machine.specs.View.{View, part_in}
-use Rattle.mp_machine.specs.Rule.{Backed}
+use Rattle.std.specs.Prelude.{◌≡◌, ℕ, ◌≤◌, nat_lt, length, Option, Some, None, if◌then◌else◌}
+use Rattle.mp_machine.specs.View.{part_in}
 use Rattle.mp_core_trx.specs.declared.opening.TheConstants.{SLOTS}
 use Rattle.mp_core_trx.specs.declared.part.TrxPart.{TrxPart}
 use Rattle.mp_core_trx.specs.Parts.{unused, shown_at}
 use Rattle.mp_core_trx.specs.Events.{IsUsable}
 use Rattle.mp_core.specs.declared.part.CorePart.{CorePart}
-use Rattle.mp_core.specs.World.{core}
-use Rattle.mp_core.specs.Invariant.{NumbersFit}
-use Rattle.mp_shared.specs.Nodes.{Run, NodeView}
+use Rattle.mp_shared.specs.Nodes.{NodeView}
 
 -- how many slots a part has used, if it is held: one for each transaction that it began
 abbrev pub used_by : Option CorePart → Option ℕ
@@ -34,11 +30,3 @@ CanUse n p slot = (q : CorePart) → part_in n.parts p ≡ Some q → IsUsable q
 pub record SlotsInOrder (p : TrxPart) : Type 0 where
   pub few : length p.begun ≤ SLOTS
   pub fresh : (slot : ℕ) → length p.begun ≤ slot → shown_at p.rows slot ≡ unused
-
--- What is true of each node: its seat is at its run's table, the run's numbers fit, a world that can be reached agrees with its parts, and it has counted their slots
-pub record IsKeptNode (run : Run) (table_id : TableId) (parts : View CorePart) (used : List (Option ℕ)) : Type 0 where
-  pub one : run.table_id ≡ table_id
-  pub fair : NumbersFit run.opening
-  pub backed : Backed (core run.opening) parts
-  pub counted : (n : ℕ) → slice_index_or used n None ≡ used_by (part_in parts n)
-  pub in_order : (n : ℕ) (p : CorePart) → part_in parts n ≡ Some p → SlotsInOrder p.trx

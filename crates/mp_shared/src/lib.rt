@@ -2,12 +2,22 @@
 //! other threads do meanwhile. `docs/architecture.md` has how it works, `docs/promises.md` what it promises.
 #![tactic(auto)]
 
+mod frame_steps;
+mod frames;
+mod held_locks;
+mod laws;
+mod lock_steps;
+mod log_steps;
 mod node;
+mod opening;
 mod shared;
 mod slot_counts;
 mod system;
 mod trx_steps;
 
+pub use frames::Frames;
+pub use laws::{law_holds_examples, law_keeps_examples};
+pub use mp_core_pages::Held;
 pub use mp_core_trx::Base;
 pub use node::Node;
 pub use shared::Shared;

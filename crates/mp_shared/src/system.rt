@@ -1,21 +1,20 @@
 //! The joint machine, for the table that runs it.
 
-use mp_core::{CoreEvent, CoreOpening, CorePart};
+use crate::opening::Opening;
+use mp_core::{CoreEvent, CorePart};
 use mp_machine::{NamesEvent, System};
+use mp_page::Page;
 use std::marker::Brand;
-
-/// What a slot of the table holds: nothing yet.
-pub type Frame = ();
 
 /// The machine.
 pub struct Core;
 
 impl System for Core {
-    type Slot = Frame;
+    type Slot = Page;
 
     type Part = CorePart;
 
-    type Opening = CoreOpening;
+    type Opening = Opening;
 
     type Event = CoreEvent;
 
@@ -33,7 +32,7 @@ impl System for Core {
     ghost laws = { core_laws };
 }
 
-impl NamesEvent<Core, CoreEvent, CoreOpening> for Brand {
+impl NamesEvent<Core, CoreEvent, Opening> for Brand {
     ghost use Rattle.mp_core_trx.specs.declared.event.TrxEvent.TheVariants.{LoadTso};
     ghost use Rattle.mp_core.specs.declared.event.CoreEvent.TheVariants.{Trx};
     ghost use Rattle.mp_core.specs.World.{empty_opening};

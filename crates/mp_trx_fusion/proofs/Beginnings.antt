@@ -1,8 +1,8 @@
 -- A transaction begins: it may, and what the node is then.
-use Rattle.std.proofs.Common.{◌≡◌, ℕ, zero, suc, ◌+◌, ◌<◌, ◌≤◌, List, [], ◌∷◌, length, Option, Some, None, Bool, true, false, nat_lt, if◌then◌else◌, refl, sym, ap, ◌∙◌, subst, arith}
+use Rattle.std.proofs.Common.{◌≡◌, ℕ, ◌+◌, ◌<◌, ◌≤◌, List, ◌∷◌, length, Option, Some, None, Bool, true, false, nat_lt, if◌then◌else◌, refl, sym, ap, ◌∙◌, subst, arith}
 use Rattle.std.proofs.lemmas.Bool.{ltb-true, ltb-false}
 use Rattle.mp_machine.specs.Machine.{run}
-use Rattle.mp_machine.specs.View.{View, part_in, with_part}
+use Rattle.mp_machine.specs.View.{part_in, with_part}
 use Rattle.mp_machine.proofs.Views.{part_in-with_here}
 use Rattle.mp_core_trx.specs.declared.opening.TheConstants.{SLOTS}
 use Rattle.mp_core_trx.specs.declared.opening.TrxOpening.{TrxOpening}
@@ -17,14 +17,10 @@ use Rattle.mp_core.specs.declared.event.CoreEvent.TheVariants.{Trx}
 use Rattle.mp_core.specs.World.{core_part, core_made, core}
 use Rattle.mp_core.proofs.Law.{law}
 use Rattle.mp_shared.specs.Nodes.{NodeView, Reached, MayTake, changed_part, Took, TookUnseen}
+use Rattle.mp_shared.proofs.PageCalls.{with_part_twice}
 use Rattle.mp_shared.specs.Slots.{used_by, slot_after, next_slot, CanUse}
 use Rattle.mp_trx_fusion.specs.Calls.{with_trx, with_begin, MayBegin}
 use Rattle.mp_trx_fusion.proofs.Sights.{newest_seen}
-
-with_part_twice : {P : Type 0} (v : View P) (n : ℕ) (p q : P) → with_part (with_part v n p) n q ≡ with_part v n q
-with_part_twice [] n p q = refl
-with_part_twice (x ∷ v) zero p q = refl
-with_part_twice (x ∷ v) (suc n) p q = ap (λ u. x ∷ u) (with_part_twice v n p q)
 
 slot_below : (b : Bool) (count slot : ℕ) → nat_lt count SLOTS ≡ b → (if b then Some count else None) ≡ Some slot → slot < SLOTS
 slot_below true count slot is e = let same : count ≡ slot = cc in let below = ltb-true count SLOTS is in omega (arith, below)
@@ -90,9 +86,9 @@ module _ (p version slot view : ℕ) (before mid : NodeView) (may : MayBegin bef
   becomes after store =
       let e = Trx (StoreActive p (trx p slot version)) in
       let f = core_made e store.0 store.1.note in
-      let now : CorePart = record { trx = with_begin (begun_of (trx p slot version) view) may.mine.trx; ops = may.mine.ops + 2 } in
+      let now : CorePart = record (may.mine) { trx = with_begin (begun_of (trx p slot version) view) may.mine.trx; ops = may.mine.ops + 2 } in
       let two : may.mine.ops + 1 + 1 ≡ may.mine.ops + 2 = omega arith in
-      let same : f loaded_part ≡ now = λ i. record { trx = record (with_begin (begun_of (trx p slot version) view) may.mine.trx) { begun = begun_of (trx p slot version) (view_is i) ∷ may.mine.trx.begun }; ops = two i } in
+      let same : f loaded_part ≡ now = λ i. record (may.mine) { trx = record (with_begin (begun_of (trx p slot version) view) may.mine.trx) { begun = begun_of (trx p slot version) (view_is i) ∷ may.mine.trx.begun }; ops = two i } in
       let parts : after.parts ≡ with_part before.parts p now =
       ap (λ (x : NodeView). x.parts) store.1.becomes ∙ ap (changed_part mid.parts p f) mid_holds ∙ ap (λ v. with_part v p (f loaded_part)) mid_parts ∙ with_part_twice before.parts p loaded_part (f loaded_part) ∙ ap (with_part before.parts p) same in
       let goal_parts : with_part before.parts p now ≡ (with_trx before p (with_begin (begun_of (trx p slot version) view)) 2).parts =

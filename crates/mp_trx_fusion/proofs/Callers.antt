@@ -17,14 +17,19 @@ use Rattle.mp_machine.specs.Lists.{IsIn}
 use Rattle.mp_core_trx.specs.Parts.{shown_at, Shows, HasBegun, HasDrawnNothing}
 use Rattle.mp_core_trx.specs.Events.{IsNode, trx_node_of, slot_row, TrxAllowed, with_slot_load, with_prep, with_draw}
 use Rattle.mp_core_trx.specs.Words.{shows}
+use Rattle.mp_core_pages.specs.PageParts.{last_llsn}
 use Rattle.mp_core.specs.declared.part.CorePart.{CorePart}
 use Rattle.mp_core.specs.declared.event.CoreEvent.{CoreEvent}
 use Rattle.mp_core.specs.declared.event.CoreEvent.TheVariants.{Trx}
+use Rattle.mp_core.specs.Contents.{page_ops}
 use Rattle.mp_core.specs.World.{MayHere, core_node_of, core_part, core_start, core}
+use Rattle.mp_core.specs.OwnMtrs.{owner_of}
 use Rattle.mp_core.proofs.Law.{law}
 use Rattle.mp_shared.specs.Nodes.{NodeView, Run, Reached, HoldsPart, MayTake, changed_part, first_node, node_without, node_of_one}
 use Rattle.mp_shared.proofs.Holding.{holds_the_part}
 use Rattle.mp_trx_fusion.specs.Calls.{with_trx, with_begin, MayBegin, MayLook}
+use Rattle.mp_trx_fusion.specs.CommitLogs.{MayCommitAt, LogEndsAt}
+use Rattle.mp_trx_fusion.proofs.CommitsAlone.{nobody_owns}
 
 shown_first : (id : TrxId) (x : Shown) (rows : List SlotRow) → shown_at (slot_row id x ∷ rows) id.slot ≡ x
 shown_first id x rows = ap (λ b. if b then x else shown_at rows id.slot) (eq-eqb id.slot id.slot refl)
@@ -63,6 +68,9 @@ module _ (n later : NodeView) (p : ℕ) (f : TrxPart → TrxPart) (steps : ℕ) 
         may.4,
       )
 
+  pub log_else : (k llsn version : ℕ) → ¬ (k ≡ p) → LogEndsAt n k llsn version → LogEndsAt later k llsn version
+  log_else k llsn version other log = record { mine = log.mine; holds = part_else k other ∙ log.holds; last = log.last; few = log.few; alone = log.alone; below = log.below }
+
   -- a version that was free stays so, where nothing is begun, or with another version
   pub may_begin_here : (version : ℕ) → ((q : TrxPart) → (f q).opening ≡ q.opening) → ((q : TrxPart) (b : Begun) → IsIn b (f q).begun → IsIn b q.begun ⊎ (¬ (b.id.version ≡ version))) → MayBegin n p version → MayBegin later p version
   may_begin_here version same keeps may =
@@ -76,6 +84,19 @@ module _ (n later : NodeView) (p : ℕ) (f : TrxPart → TrxPart) (steps : ℕ) 
         fresh = λ b has. ⊎_elim (λ (old : IsIn b q.trx.begun). may.fresh b old) (λ (other : ¬ (b.id.version ≡ version)). other) (keeps q.trx b has);
       }
 
+  -- its log stays
+  pub log_here : (llsn version : ℕ) → ((q : TrxPart) → (f q).opening ≡ q.opening) → LogEndsAt n p llsn version → LogEndsAt later p llsn version
+  log_here llsn version same log =
+      let q = log.mine in
+      record {
+        mine = record q { trx = f q.trx; ops = q.ops + steps };
+        holds = part_here q log.holds;
+        last = subst (λ (o : TrxOpening). last_llsn page_ops o.base.llsn q.pages.made ≡ llsn) (sym (same q.trx)) log.last;
+        few = log.few;
+        alone = log.alone;
+        below = log.below;
+      }
+
 -- what a primary may do stays as it looks where a transaction stands
 still_allowed : (id : TrxId) (word : ℕ) (e : TrxEvent) (q : TrxPart) → TrxAllowed q e → TrxAllowed (with_slot_load id.node id.slot word q) e
 still_allowed id word (LoadTso n) q may = may
@@ -87,13 +108,14 @@ still_allowed id word (StoreEnd n of (Some cts)) q may = may
 still_allowed id word (StoreEnd n of None) q may = may
 still_allowed id word (LoadTit n whose slot) q may = may
 
-still_here : (e : TrxEvent) (q later : CorePart) → MayHere q e → MayHere later e
-still_here (LoadTso n) q later may = tt
-still_here (StoreActive n of) q later may = tt
-still_here (StorePrep n of) q later may = tt
-still_here (DrawTso n of) q later may = tt
-still_here (StoreEnd n of cts) q later may = tt
-still_here (LoadTit n whose slot) q later may = tt
+still_here : (id : TrxId) (word : ℕ) (e : TrxEvent) (q : CorePart) → MayHere q e → MayHere (record q { trx = with_slot_load id.node id.slot word q.trx; ops = q.ops + 1 }) e
+still_here id word (LoadTso n) q may = tt
+still_here id word (StoreActive n of) q may = tt
+still_here id word (StorePrep n of) q may = tt
+still_here id word (DrawTso n of) q may = tt
+still_here id word (StoreEnd n of (Some cts)) q may = may
+still_here id word (StoreEnd n of None) q may = may
+still_here id word (LoadTit n whose slot) q may = tt
 
 pub may_take_looked : (n later : NodeView) (p : ℕ) (id : TrxId) (word : ℕ) → later ≡ with_trx n p (with_slot_load id.node id.slot word) 1 → (e : TrxEvent) → trx_node_of e ≡ p → MayTake (Trx e) n → MayTake (Trx e) later
 may_take_looked n later p id word is e own may =
@@ -101,7 +123,7 @@ may_take_looked n later p id word is e own may =
     let has : part_in n.parts p ≡ Some q = subst (λ k. part_in n.parts k ≡ Some q) own may.1 in (
       record q { trx = with_slot_load id.node id.slot word q.trx; ops = q.ops + 1 },
       subst (λ k. part_in later.parts k ≡ Some (record q { trx = with_slot_load id.node id.slot word q.trx; ops = q.ops + 1 })) (sym own) (part_here n later p (with_slot_load id.node id.slot word) _ is q has),
-      (still_allowed id word e q.trx may.2.0, still_here e q (record q { trx = with_slot_load id.node id.slot word q.trx; ops = q.ops + 1 }) may.2.1),
+      (still_allowed id word e q.trx may.2.0, still_here id word e q may.2.1),
     )
 
 -- one that is ACTIVE has drawn nothing
@@ -114,9 +136,11 @@ drew_nothing n p id r may =
     let shown : Shows (w.trx.part p).rows id Active = subst (λ (x : CorePart). Shows x.trx.rows id Active) (sym is) may.2.0.1.1 in
     subst (λ (x : CorePart). HasDrawnNothing x.trx.drew id) is ((i.trx.slots p id.slot).active id begun refl shown)
 
--- so it may be freed
-pub may_free : (n : NodeView) (p : ℕ) (id : TrxId) → Reached n → MayTake (Trx (StorePrep p id)) n → MayTake (Trx (StoreEnd p id None)) n
-may_free n p id r may = (may.0, may.1, ((may.2.0.0, ((may.2.0.1.0, inl may.2.0.1.1), drew_nothing n p id r may)), tt))
+-- so it may be freed, where the log has nothing but commit records
+pub may_free : (n : NodeView) (p : ℕ) (id : TrxId) → Reached n → MayTake (Trx (StorePrep p id)) n → (llsn version : ℕ) → LogEndsAt n p llsn version → MayTake (Trx (StoreEnd p id None)) n
+may_free n p id r may llsn version log =
+    let same : log.mine ≡ may.0 = (let both = sym log.holds ∙ may.1 in cc) in
+    (may.0, may.1, ((may.2.0.0, ((may.2.0.1.0, inl may.2.0.1.1), drew_nothing n p id r may)), subst (λ (q : CorePart). (key : ℕ) → owner_of q.pages.made key ≡ Some id → ⊥) same (nobody_owns log.mine.pages.made log.alone id)))
 
 module _ (n later : NodeView) (p : ℕ) where
   -- a transaction that began may be prepared
@@ -138,11 +162,18 @@ module _ (n later : NodeView) (p : ℕ) where
       let q = may.0 in
       (record q { trx = with_prep id q.trx; ops = q.ops + 1 }, part_here n later p (with_prep id) _ is q may.1, ((may.2.0.0, (may.2.0.1.0, shown_first id (shows Prep id.version 0) q.trx.rows, drew_nothing n p id r may)), tt))
 
-  -- and once it drew it may be published at that timestamp
-  pub may_publish : (id : TrxId) (cts : ℕ) → later ≡ with_trx n p (with_draw id cts) 1 → MayTake (Trx (DrawTso p id)) n → MayTake (Trx (StoreEnd p id (Some cts))) later
-  may_publish id cts is may =
+  -- and once it drew it may be committed at that timestamp
+  pub may_commit : (id : TrxId) (cts : ℕ) → later ≡ with_trx n p (with_draw id cts) 1 → MayTake (Trx (DrawTso p id)) n → MayCommitAt later p id cts
+  may_commit id cts is may =
       let q = may.0 in
-      (record q { trx = with_draw id cts q.trx; ops = q.ops + 1 }, part_here n later p (with_draw id cts) _ is q may.1, ((may.2.0.0, ((may.2.0.1.0, inr may.2.0.1.1), inl refl)), tt))
+      record {
+        mine = record q { trx = with_draw id cts q.trx; ops = q.ops + 1 };
+        holds = part_here n later p (with_draw id cts) _ is q may.1;
+        node = may.2.0.0;
+        begun = may.2.0.1.0;
+        prepared = may.2.0.1.1;
+        drawn = inl refl;
+      }
 
 -- before any step each primary may begin with each version of the run, and look where a transaction stands
 module _ (r : Run) (p : ℕ) (node : IsNode r.opening.trx p) where
@@ -155,8 +186,32 @@ module _ (r : Run) (p : ℕ) (node : IsNode r.opening.trx p) where
   pub may_look_first : (id : TrxId) → IsNode r.opening.trx id.node → id.slot < SLOTS → MayLook (first_node r) p id
   may_look_first id of_node slot = (core_part (core_start r.opening) p, first_part, node, of_node, slot)
 
+  -- over a base of zeros no log has anything
+  pub log_first : r.opening.trx.base.llsn ≡ 0 → LogEndsAt (first_node r) p 0 0
+  log_first zeros = record { mine = core_part (core_start r.opening) p; holds = first_part; last = zeros; few = omega arith; alone = λ x is. absurd is; below = λ x id cts is. absurd is }
+
 -- and so it may after its part went to a node of its own, or another's did
 module _ (n later : NodeView) (p : ℕ) where
+  pub log_alone : (llsn version : ℕ) → later ≡ node_of_one p n → LogEndsAt n p llsn version → LogEndsAt later p llsn version
+  log_alone llsn version is log = record {
+    mine = log.mine;
+    holds = ap (λ (v : NodeView). part_in v.parts p) is ∙ part_in-only (λ k. k == p) n.parts p ∙ ap (λ b. if b then part_in n.parts p else None) (eq-eqb p p refl) ∙ log.holds;
+    last = log.last;
+    few = log.few;
+    alone = log.alone;
+    below = log.below;
+  }
+
+  pub log_without : (llsn version : ℕ) → later ≡ node_without p n → (k : ℕ) → ¬ (k ≡ p) → LogEndsAt n k llsn version → LogEndsAt later k llsn version
+  log_without llsn version is k other log = record {
+    mine = log.mine;
+    holds = ap (λ (v : NodeView). part_in v.parts k) is ∙ part_in-only (λ j. not (j == p)) n.parts k ∙ ap (λ b. if not b then part_in n.parts k else None) (ne_eqb k p other) ∙ log.holds;
+    last = log.last;
+    few = log.few;
+    alone = log.alone;
+    below = log.below;
+  }
+
   pub may_begin_alone : later ≡ node_of_one p n → (version : ℕ) → MayBegin n p version → MayBegin later p version
   may_begin_alone is version may = record {
     mine = may.mine;
@@ -176,6 +231,17 @@ module _ (n later : NodeView) (p : ℕ) where
     within = may.within;
     fresh = may.fresh;
   }
+
+-- versions above a bound are above a lower one
+pub log_below : (n : NodeView) (p llsn low high : ℕ) → low ≤ high → LogEndsAt n p llsn low → LogEndsAt n p llsn high
+log_below n p llsn low high more log = record {
+  mine = log.mine;
+  holds = log.holds;
+  last = log.last;
+  few = log.few;
+  alone = log.alone;
+  below = λ x id cts is commits. let less = log.below x id cts is commits in omega (arith, less, more);
+}
 
 -- who may begin holds its part
 pub holds_part : (n : NodeView) (p version : ℕ) → MayBegin n p version → HoldsPart n p

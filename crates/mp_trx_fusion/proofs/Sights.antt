@@ -15,8 +15,8 @@ use Rattle.mp_core.specs.declared.event.CoreEvent.TheVariants.{Trx}
 use Rattle.mp_core.specs.World.{CoreWorld, core_part, core}
 use Rattle.mp_core.specs.Invariant.{NumbersFit, CoreInv}
 use Rattle.mp_core.proofs.Law.{law}
-use Rattle.mp_shared.specs.Nodes.{NodeView, Took}
-use Rattle.mp_trx_fusion.specs.Calls.{Knows, HoldsAll, trx_in, tso_of}
+use Rattle.mp_shared.specs.Nodes.{NodeView, HoldsAll, Took}
+use Rattle.mp_trx_fusion.specs.Calls.{Knows, trx_in, tso_of}
 
 -- a part of transactions that is held is the world's
 of_world : (w : CoreWorld) (n : ℕ) (x : Option CorePart) → ((q : CorePart) → x ≡ Some q → core_part w n ≡ q) → (p : TrxPart) → trx_in x ≡ Some p → w.trx.part n ≡ p

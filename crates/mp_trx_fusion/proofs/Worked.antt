@@ -1,9 +1,10 @@
 -- Small nodes and words that show what the definitions say.
-use Rattle.std.proofs.Common.{◌≡◌, Some, None, inl, refl, sym, subst, arith, lit<, lit≤}
+use Rattle.std.proofs.Common.{◌≡◌, [], Some, None, inl, refl, sym, subst, arith, lit<, lit≤}
 use Rattle.mp_model.specs.declared.ids.TrxId.{TrxId}
 use Rattle.mp_core_trx.specs.Parts.{trx, begun_of, first_trx_part}
 use Rattle.mp_core_trx.specs.declared.part.Begun.{Begun}
 use Rattle.mp_machine.specs.Lists.{IsIn}
+use Rattle.mp_core_pages.specs.PageParts.{pages_newcomer}
 use Rattle.mp_core.specs.declared.part.CorePart.{CorePart}
 use Rattle.mp_core_trx.specs.Words.{shown_of}
 use Rattle.mp_shared.specs.Nodes.{Run, NodeView, opening_of, first_node, node_of_one}
@@ -33,13 +34,13 @@ of_none = refl
 -- two primaries over a base of zeros
 module _ (r : Run) where
   abbrev fresh : NodeView
-  fresh = first_node (record r { opening = opening_of record { ts = 0; llsn = 0; version = 0 } 2 2 })
+  fresh = first_node (record r { opening = opening_of record { ts = 0; llsn = 0; version = 0 } 2 2 [] })
 
   abbrev one_begun : NodeView
   one_begun = with_trx fresh 1 (with_begin (begun_of first 0)) 2
 
   abbrev one_part : CorePart
-  one_part = record { trx = with_begin (begun_of first 0) (first_trx_part fresh.run.opening.trx); ops = 2 }
+  one_part = record { trx = with_begin (begun_of first 0) (first_trx_part fresh.run.opening.trx); pages = pages_newcomer; ops = 2 }
 
   -- each transaction takes its primary's next slot
   slot_of_first : next_slot fresh 1 ≡ Some 0

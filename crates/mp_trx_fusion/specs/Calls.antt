@@ -14,11 +14,7 @@ use Rattle.mp_core_trx.specs.Events.{IsNode, with_seen, with_begun}
 use Rattle.mp_core.specs.declared.part.CorePart.{CorePart}
 use Rattle.mp_core.specs.declared.event.CoreEvent.{CoreEvent}
 use Rattle.mp_core.specs.World.{core_part, core}
-use Rattle.mp_shared.specs.Nodes.{NodeView, changed_part}
-
--- the node after a change of the part of one primary, which it holds; no other part changes
-abbrev pub node_with : NodeView → ℕ → (CorePart → CorePart) → NodeView
-node_with n p f = record n { parts = changed_part n.parts p f (part_in n.parts p) }
+use Rattle.mp_shared.specs.Nodes.{NodeView, node_with}
 
 -- the node after a change of the transactions of one primary, by so many operations on words
 abbrev pub with_trx : NodeView → ℕ → (TrxPart → TrxPart) → ℕ → NodeView
@@ -34,10 +30,6 @@ Knows n p v = (q : CorePart) → part_in n.parts p ≡ Some q → newest q.trx �
 
 abbrev pub KnowsLess : NodeView → ℕ → ℕ → Type 0
 KnowsLess n p v = (q : CorePart) → part_in n.parts p ≡ Some q → newest q.trx < v
-
--- the node holds the parts of all primaries
-abbrev pub HoldsAll : NodeView → Type 0
-HoldsAll n = (k : ℕ) → IsNode n.run.opening.trx k → (q : CorePart) × (part_in n.parts k ≡ Some q)
 
 abbrev pub trx_in : Option CorePart → Option TrxPart
 trx_in (Some q) = Some q.trx

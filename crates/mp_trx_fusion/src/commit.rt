@@ -2,9 +2,9 @@
 ghost use Rattle.std.specs.Prelude.{◌≡◌, ◌+◌, ◌<◌, Some, None};
 ghost use Rattle.mp_core_trx.specs.declared.event.TrxEvent.TheVariants.{StorePrep, DrawTso, StoreEnd};
 ghost use Rattle.mp_core.specs.declared.event.CoreEvent.TheVariants.{Trx};
-ghost use Rattle.mp_shared.specs.Nodes.{MayTake, Reached};
+ghost use Rattle.mp_shared.specs.Nodes.{HoldsAll, MayTake, Reached};
 ghost use Rattle.mp_core_trx.specs.Events.{with_prep, with_draw, with_end};
-ghost use Rattle.mp_trx_fusion.specs.Calls.{with_trx, IsNextTimestamp, KnowsLess, HoldsAll, tso_of};
+ghost use Rattle.mp_trx_fusion.specs.Calls.{with_trx, IsNextTimestamp, KnowsLess, tso_of};
 
 use mp_model::TrxId;
 use mp_shared::{Node, Shared};

@@ -1,10 +1,10 @@
 //! What a primary sees of the timestamp oracle, and how its transactions begin.
 ghost use Rattle.std.specs.Prelude.{◌≡◌, ◌≤◌, Some, None, IfOk, IfErr, IsOk};
 ghost use Rattle.mp_core_trx.specs.declared.opening.TheConstants.{SLOTS};
-ghost use Rattle.mp_shared.specs.Nodes.{HoldsPart, Reached};
+ghost use Rattle.mp_shared.specs.Nodes.{HoldsAll, HoldsPart, Reached};
 ghost use Rattle.mp_shared.specs.Slots.{next_slot, CanUse};
 ghost use Rattle.mp_core_trx.specs.Events.{with_seen};
-ghost use Rattle.mp_trx_fusion.specs.Calls.{with_trx, with_begin, Knows, HoldsAll, tso_of, MayBegin, no_slot_for};
+ghost use Rattle.mp_trx_fusion.specs.Calls.{with_trx, with_begin, Knows, tso_of, MayBegin, no_slot_for};
 
 use mp_core_trx::Begun;
 use mp_model::{NotYet, TrxId, WordKind};

@@ -1,7 +1,9 @@
 //! One commit that two primaries see, and one transaction that is freed.
 
 use crate::{Begun, SlotStatus, begin, draw, free, prepare, publish, status, view};
+use mp_cells::{Mtr, Record, Records};
 use mp_model::{Memory, TrxId};
+use mp_page::Pages;
 use mp_shared::{Base, Node, Shared};
 
 const FRESH: Base = Base {
@@ -12,7 +14,8 @@ const FRESH: Base = Base {
 
 #[test]
 fn two_primaries_see_one_commit(rt: HostRuntime) -> Result<(), Memory> {
-    let (shared, mut node) = Shared::open(rt.alloc(), FRESH, 2, 1)?;
+    let pages = Pages::fresh(rt.alloc())?;
+    let (shared, mut node) = Shared::open(rt.alloc(), FRESH, 2, 1, pages)?;
     let Ok(Begun { id, view: seen }) = begin(&shared, &mut node, 1, 1) else {
         unreachable!()
     };
@@ -24,6 +27,15 @@ fn two_primaries_see_one_commit(rt: HostRuntime) -> Result<(), Memory> {
     prepare(&shared, &mut node, 1, id);
     let before = status(&shared, &mut node, 2, id);
     let cts = draw(&shared, &mut node, 1, id);
+    let mut records = Records::with_room(rt.alloc())?;
+    records.put(Record::Commit { id, cts });
+    let mtr = Mtr {
+        node: 1,
+        llsn: 1,
+        records,
+    };
+    shared.store_llsn(&mut node, 1, &mtr);
+    shared.store_durable(&mut node, 1, 1);
     publish(&shared, &mut node, 1, id, cts);
     let after = status(&shared, &mut node, 2, id);
     let newest = view(&shared, &mut node, 2);
@@ -32,13 +44,13 @@ fn two_primaries_see_one_commit(rt: HostRuntime) -> Result<(), Memory> {
     assert_eq!(rt; cts, 1);
     assert_eq!(rt; after, SlotStatus::Committed(1));
     assert_eq!(rt; newest, 1);
-    shared.close(node);
     Ok(())
 }
 
 #[test]
 fn a_freed_transaction_shows_free(rt: HostRuntime) -> Result<(), Memory> {
-    let (shared, mut node) = Shared::open(rt.alloc(), FRESH, 2, 1)?;
+    let pages = Pages::fresh(rt.alloc())?;
+    let (shared, mut node) = Shared::open(rt.alloc(), FRESH, 2, 1, pages)?;
     let Ok(begun) = begin(&shared, &mut node, 1, 1) else {
         unreachable!()
     };
@@ -54,6 +66,5 @@ fn a_freed_transaction_shows_free(rt: HostRuntime) -> Result<(), Memory> {
     assert_eq!(rt; before, SlotStatus::Active);
     assert_eq!(rt; after, SlotStatus::Free);
     assert_eq!(rt; of_none, SlotStatus::Other);
-    shared.close(node);
     Ok(())
 }

@@ -6,11 +6,11 @@ use Rattle.mp_shared.proofs.shared.Shared.load_tso.Goals as goal
 
 pub load-requires-clause-event : goal.load-requires-clause-event
 load-requires-clause-event c =
-    can _ _ _ c.self.view_is _ _ _ c.node.view_is c.requires.run _ _ c.node.invariant (Trx (LoadTso c.args.p)) c.requires.step tt _ _ refl (λ es all. refl)
+    can _ _ _ c.self.view_is _ _ _ c.node.view_is c.requires.run _ _ _ c.node.invariant (Trx (LoadTso c.args.p)) c.requires.step tt _ _ refl (λ es all. refl)
 
 pub invariant_of-node : goal.invariant_of-node
 invariant_of-node c =
-    kept_same _ _ _ c.self.view_is _ _ _ c.node.view_is c.requires.run _ _ c.node.invariant (Trx (LoadTso c.args.p)) c.requires.step _ _ _ c.load.ensures.seat.0 c.load.ensures.event tt refl
+    kept_same _ _ _ c.self.view_is _ _ _ c.node.view_is c.requires.run _ _ _ c.node.invariant (Trx (LoadTso c.args.p)) c.requires.step _ _ _ c.load.ensures.seat.0 c.load.ensures.event tt tt tt refl
 
 pub returns : goal.returns
-returns c = took _ _ _ c.self.view_is _ _ _ c.node.view_is c.requires.run _ _ c.node.invariant (Trx (LoadTso c.args.p)) c.requires.step _ _ c.load.ensures.event
+returns c = took _ _ _ c.self.view_is _ _ _ c.node.view_is c.requires.run _ _ _ c.node.invariant (Trx (LoadTso c.args.p)) c.requires.step _ _ c.load.ensures.event

@@ -8,22 +8,22 @@ use Rattle.mp_shared.proofs.Fits.{stored_fits}
 use Rattle.mp_shared.proofs.shared.Shared.store_end.Goals as goal
 
 pub slot_word-requires : goal.slot_word-requires
-slot_word-requires c = place _ _ _ c.self.view_is _ _ _ c.node.view_is c.requires.run _ _ c.node.invariant (Trx (StoreEnd c.args.p c.args.id c.args.cts)) c.requires.step
+slot_word-requires c = place _ _ _ c.self.view_is _ _ _ c.node.view_is c.requires.run _ _ _ c.node.invariant (Trx (StoreEnd c.args.p c.args.id c.args.cts)) c.requires.step
 
 pub word-requires : goal.word-requires
 word-requires c =
-    let there = allowed_there _ _ _ c.self.view_is _ _ _ c.node.view_is c.requires.run _ _ c.node.invariant (Trx (StoreEnd c.args.p c.args.id c.args.cts)) c.requires.step in
-    subst (λ (x : Shown). (x.version < 2 ^ 24) × (x.cts < 2 ^ 38)) (sym c.ended.ensures) (stored_fits c.self.inside.table.table.shared.key (fair _ _ _ c.self.view_is _ _ _ c.node.view_is c.requires.run _ _ c.node.invariant (Trx (StoreEnd c.args.p c.args.id c.args.cts)) c.requires.step) there.0 there.1 (StoreEnd c.args.p c.args.id c.args.cts) c.args.p c.args.id _ there.2 refl)
+    let there = allowed_there _ _ _ c.self.view_is _ _ _ c.node.view_is c.requires.run _ _ _ c.node.invariant (Trx (StoreEnd c.args.p c.args.id c.args.cts)) c.requires.step in
+    subst (λ (x : Shown). (x.version < 2 ^ 24) × (x.cts < 2 ^ 38)) (sym c.ended.ensures) (stored_fits c.self.inside.table.table.shared.key (fair _ _ _ c.self.view_is _ _ _ c.node.view_is c.requires.run _ _ _ c.node.invariant (Trx (StoreEnd c.args.p c.args.id c.args.cts)) c.requires.step) there.0 there.1 (StoreEnd c.args.p c.args.id c.args.cts) c.args.p c.args.id _ there.2 refl)
 
 pub store-requires-clause-table : goal.store-requires-clause-table
 store-requires-clause-table c =
-    (one_table _ _ _ c.self.view_is _ _ _ c.node.view_is c.requires.run _ _ c.node.invariant, refl, within _ _ _ c.self.view_is _ _ _ c.node.view_is c.requires.run _ _ c.node.invariant (Trx (StoreEnd c.args.p c.args.id c.args.cts)) c.requires.step _ _ c.self.invariant c.slot_word.ensures)
+    (one_table _ _ _ c.self.view_is _ _ _ c.node.view_is c.requires.run _ _ _ c.node.invariant, refl, within _ _ _ c.self.view_is _ _ _ c.node.view_is c.requires.run _ _ _ c.node.invariant (Trx (StoreEnd c.args.p c.args.id c.args.cts)) c.requires.step _ _ c.self.invariant.0 c.slot_word.ensures)
 
 pub store-requires-clause-event : goal.store-requires-clause-event
-store-requires-clause-event c = can _ _ _ c.self.view_is _ _ _ c.node.view_is c.requires.run _ _ c.node.invariant (Trx (StoreEnd c.args.p c.args.id c.args.cts)) c.requires.step tt _ _ c.slot_word.ensures (λ es all. c.word.ensures.word ∙ ap word_showing c.ended.ensures)
+store-requires-clause-event c = can _ _ _ c.self.view_is _ _ _ c.node.view_is c.requires.run _ _ _ c.node.invariant (Trx (StoreEnd c.args.p c.args.id c.args.cts)) c.requires.step tt _ _ c.slot_word.ensures (λ es all. c.word.ensures.word ∙ ap word_showing c.ended.ensures)
 
 pub invariant_of-node : goal.invariant_of-node
-invariant_of-node c = kept_same _ _ _ c.self.view_is _ _ _ c.node.view_is c.requires.run _ _ c.node.invariant (Trx (StoreEnd c.args.p c.args.id c.args.cts)) c.requires.step _ _ _ c.store.ensures.seat.0 c.store.ensures.event.1 tt refl
+invariant_of-node c = kept_same _ _ _ c.self.view_is _ _ _ c.node.view_is c.requires.run _ _ _ c.node.invariant (Trx (StoreEnd c.args.p c.args.id c.args.cts)) c.requires.step _ _ _ c.store.ensures.seat.0 c.store.ensures.event.1 tt tt tt refl
 
 pub returns : goal.returns
-returns c = (c.store.ensures.event.0, took _ _ _ c.self.view_is _ _ _ c.node.view_is c.requires.run _ _ c.node.invariant (Trx (StoreEnd c.args.p c.args.id c.args.cts)) c.requires.step _ _ c.store.ensures.event.1)
+returns c = (c.store.ensures.event.0, took _ _ _ c.self.view_is _ _ _ c.node.view_is c.requires.run _ _ _ c.node.invariant (Trx (StoreEnd c.args.p c.args.id c.args.cts)) c.requires.step _ _ c.store.ensures.event.1)
