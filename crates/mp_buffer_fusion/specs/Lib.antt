@@ -1,0 +1,6 @@
+pub mod Buffers
+pub mod Places
+pub mod Agreement
+pub mod Visits
+pub mod Fetching
+pub mod PoolExamples
