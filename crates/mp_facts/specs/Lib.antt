@@ -1,0 +1,4 @@
+pub mod Facts
+pub mod Standing
+pub mod SmallParts
+pub mod SmallRuns
