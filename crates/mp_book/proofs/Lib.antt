@@ -1,0 +1,9 @@
+pub mod Items
+pub mod OwnLines
+pub mod Above
+pub mod Others
+pub mod KeptRows
+pub mod NextAnswer
+pub mod Books
+pub mod Changes
+pub mod Spelled

@@ -1,0 +1,4 @@
+pub mod Orderly
+pub mod Stages
+pub mod Answered
+pub mod Books

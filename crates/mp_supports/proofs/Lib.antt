@@ -1,0 +1,7 @@
+pub mod Extending
+pub mod SeesMore
+pub mod SupportsMore
+pub mod Keeping
+pub mod SmallParts
+pub mod Classes
+pub mod Unchanged

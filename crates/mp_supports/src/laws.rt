@@ -1,0 +1,80 @@
+//! The laws, as the contracts of functions that do nothing.
+ghost use Rattle.std.specs.Prelude.{ℕ, List, [], ◌∷◌, ◌++◌, ◌≡◌, ◌<◌, ◌⊎◌, Option, None, Some};
+ghost use Rattle.std.specs.List.{AllByRecursion};
+ghost use Rattle.mp_machine.specs.Lists.{IsIn};
+ghost use Rattle.mp_model.specs.declared.ids.TrxId.{TrxId};
+ghost use Rattle.mp_model.specs.declared.ids.TrxName.{TrxName};
+ghost use Rattle.mp_model.specs.declared.replies.Answer.{Answer};
+ghost use Rattle.mp_model.specs.declared.replies.Reply.{Reply};
+ghost use Rattle.mp_script.specs.declared.statements.Line.{Line};
+ghost use Rattle.mp_cells.specs.PageView.{PageView};
+ghost use Rattle.mp_cells.specs.declared.records.Mtr.{Mtr};
+ghost use Rattle.mp_cells.specs.declared.rows.Row.{Row};
+ghost use Rattle.mp_core_trx.specs.declared.part.Begun.{Begun};
+ghost use Rattle.mp_core_trx.specs.declared.part.Draw.{Draw};
+ghost use Rattle.mp_core_pages.specs.declared.part.GivenPage.{GivenPage};
+ghost use Rattle.mp_core_pages.specs.declared.part.Placed.{Placed};
+ghost use Rattle.mp_core.specs.declared.part.CorePart.{CorePart};
+ghost use Rattle.mp_core.specs.CoreExtends.{CoreExtends};
+ghost use Rattle.mp_core.specs.OwnMtrs.{row_put_by, row_restored_by, TrxMtr};
+ghost use Rattle.mp_book.specs.declared.session.Session.{Session};
+ghost use Rattle.mp_supports.specs.Work.{Work};
+ghost use Rattle.mp_supports.specs.Seeing.{Sees};
+ghost use Rattle.mp_supports.specs.Supports.{Trace, no_trace, began_trace, wrote_trace, commit_trace, SupportsReply, SupportsWaits, Supports};
+ghost use Rattle.mp_supports.specs.Kept.{Entry, IsTraced, Kept, Did, GoesDownOnce, MayBeKept};
+ghost use Rattle.mp_supports.specs.Steps.{OnlyLooked, MadeOne, Forced, TrxStep, trx_mtr_of, drew_trace};
+ghost use Rattle.mp_supports.specs.Agreement.{Opens, Mirrors, Bounds};
+
+/// Steps lead from a part to itself, and where they lead on they lead from the first to the last.
+pub fn law_extends()
+    ensures itself { (p : CorePart) → CoreExtends p p }
+    ensures onward { (p q r : CorePart) → CoreExtends p q → CoreExtends q r → CoreExtends p r }
+{}
+
+/// Whatever later steps do, a part goes on to show the versions that it showed, to have the traces that it had, and to
+/// support the answers that it supported: also where a primary that was up goes down.
+pub fn law_supports_more()
+    ensures supports { (work : Work) (p q : CorePart) (down after : ℕ) (answer : Answer) (trace : Trace) → CoreExtends p q → (down ≡ 0) ⊎ (down ≡ after) → Supports work p down answer trace → Supports work q after answer trace }
+    ensures reply { (work : Work) (p q : CorePart) (down after : ℕ) (trace : Trace) (line : Line) (reply : Reply) → CoreExtends p q → (down ≡ 0) ⊎ (down ≡ after) → SupportsReply work p down trace line reply → SupportsReply work q after trace line reply }
+    ensures waits { (work : Work) (p q : CorePart) (line : Line) (waits : List TrxName) → CoreExtends p q → SupportsWaits work p line waits → SupportsWaits work q line waits }
+    ensures sees { (p q : CorePart) (pages : List (GivenPage PageView)) (reader : TrxId) (view key : ℕ) (found : Row) → CoreExtends p q → Sees p pages reader view key found → Sees q pages reader view key found }
+    ensures traced { (p q : CorePart) (trace : Trace) → CoreExtends p q → IsTraced p trace → IsTraced q trace }
+{}
+
+/// What a primary keeps stays so by what a turn did for one statement, and the statement's answer with its trace may be
+/// added; a turn that left no trace adds nothing.
+pub fn law_kept()
+    ensures more { (work : Work) (p q : CorePart) (down after : ℕ) (entries : List Entry) (entry : Entry) → GoesDownOnce p q down after → Kept work p down entries → Did p q entry.trace → MayBeKept work q after entry → Kept work q after (entries ++ entry ∷ []) }
+    ensures quiet { (work : Work) (p q : CorePart) (down after : ℕ) (entries : List Entry) → GoesDownOnce p q down after → Kept work p down entries → Did p q no_trace → Kept work q after entries }
+{}
+
+/// What each class of steps leaves as the trace of a statement: a look, a force and a restore leave nothing, a begin, a draw,
+/// a put and a commit record leave themselves. Steps one after another leave one trace.
+pub fn law_steps_leave()
+    ensures looked { (p q : CorePart) → OnlyLooked p q → Did p q no_trace }
+    ensures forced { (p q : CorePart) (llsn : ℕ) → Forced llsn p q → Did p q no_trace }
+    ensures trx { (p q : CorePart) → TrxStep p q → q.trx.begun ≡ p.trx.begun → q.trx.drew ≡ p.trx.drew → Did p q no_trace }
+    ensures began { (p q : CorePart) (b : Begun) → TrxStep p q → q.trx.begun ≡ b ∷ p.trx.begun → q.trx.drew ≡ p.trx.drew → Did p q (began_trace b) }
+    ensures drew { (p q : CorePart) (d : Draw) → TrxStep p q → q.trx.begun ≡ p.trx.begun → q.trx.drew ≡ d ∷ p.trx.drew → Did p q (drew_trace d) }
+    ensures made { (p q : CorePart) (x : Placed Mtr) → MadeOne x p q → row_restored_by x.mtr ≡ None → Did p q (wrote_trace [] (trx_mtr_of p x)) }
+    ensures put_back { (p q : CorePart) (x : Placed Mtr) (row : Row) → MadeOne x p q → row_restored_by x.mtr ≡ Some row → Did p q no_trace }
+    ensures with_pages { (p q : CorePart) (trace : Trace) (pages : List (GivenPage PageView)) → Did p q trace → AllByRecursion (λ g. IsIn g q.pages.given) pages → AllByRecursion (λ g. (x : Placed Mtr) → IsIn x p.pages.made → x.at < g.height) pages → Did p q (record trace { pages = pages }) }
+    ensures then_nothing { (p q r : CorePart) (trace : Trace) → Did p q trace → Did q r no_trace → Did p r trace }
+    ensures after_nothing { (p q r : CorePart) (trace : Trace) → Did p q no_trace → Did q r trace → Did p r trace }
+    ensures commit { (p q r : CorePart) (d : Draw) (m : TrxMtr) → Did p q (drew_trace d) → Did q r (wrote_trace [] m) → Did p r (commit_trace d m) }
+{}
+
+/// What a step changes nothing of stays: the open transactions where it only looks, forces, or records a commit; what
+/// mirrors pages where it makes nothing and changes no lock; the bounds where it makes nothing.
+pub fn law_steps_keep()
+    ensures opens_looked { (work : Work) (p q : CorePart) (down : ℕ) (sessions : List Session) → OnlyLooked p q → Opens work p down sessions → Opens work q down sessions }
+    ensures opens_forced { (work : Work) (p q : CorePart) (down llsn : ℕ) (sessions : List Session) → Forced llsn p q → Opens work p down sessions → Opens work q down sessions }
+    ensures opens_drawn { (work : Work) (p q : CorePart) (down : ℕ) (sessions : List Session) → TrxStep p q → q.trx.begun ≡ p.trx.begun → q.trx.rows ≡ p.trx.rows → Opens work p down sessions → Opens work q down sessions }
+    ensures opens_commit { (work : Work) (p q : CorePart) (down : ℕ) (x : Placed Mtr) (sessions : List Session) → MadeOne x p q → row_put_by x.mtr ≡ None → row_restored_by x.mtr ≡ None → Opens work p down sessions → Opens work q down sessions }
+    ensures mirrors_looked { (p q : CorePart) (down llsn : ℕ) (undo : Option ℕ) → OnlyLooked p q → q.pages.locks ≡ p.pages.locks → Mirrors p down llsn undo → Mirrors q down llsn undo }
+    ensures mirrors_forced { (p q : CorePart) (down llsn durable : ℕ) (undo : Option ℕ) → Forced durable p q → Mirrors p down llsn undo → Mirrors q down llsn undo }
+    ensures mirrors_trx { (p q : CorePart) (down llsn : ℕ) (undo : Option ℕ) → TrxStep p q → Mirrors p down llsn undo → Mirrors q down llsn undo }
+    ensures bounds_looked { (work : Work) (p q : CorePart) (answers : List Answer) (sessions : List Session) → OnlyLooked p q → Bounds work p answers sessions → Bounds work q answers sessions }
+    ensures bounds_forced { (work : Work) (p q : CorePart) (llsn : ℕ) (answers : List Answer) (sessions : List Session) → Forced llsn p q → Bounds work p answers sessions → Bounds work q answers sessions }
+    ensures bounds_trx { (work : Work) (p q : CorePart) (answers : List Answer) (sessions : List Session) → TrxStep p q → Bounds work p answers sessions → Bounds work q answers sessions }
+{}
