@@ -1,0 +1,150 @@
+-- What a part shows of the versions of a key is the chain of those that stood at its leaf's height; and what it shows a
+-- reader is the first of them that is the reader's own or was committed at or below its view.
+use Rattle.std.proofs.Common.{◌≡◌, ◌≢◌, ◌⊎◌, ℕ, ◌<◌, ◌≤◌, Bool, true, false, List, [], ◌∷◌, ◌++◌, length, Option, Some, None, is_some, refl, sym, ap, subst, ◌∙◌, inl, inr, arith}
+use mathlib.Core.Bool.{false≢true}
+use Rattle.std.specs.List.{AllByRecursion}
+use Rattle.mp_machine.specs.Lists.{IsIn}
+use Rattle.mp_model.specs.declared.ids.TrxId.{TrxId}
+use Rattle.mp_cells.specs.declared.records.Mtr.{Mtr}
+use Rattle.mp_cells.specs.declared.rows.Link.{Link}
+use Rattle.mp_cells.specs.declared.rows.Row.{Row}
+use Rattle.mp_cells.specs.PageView.{PageView}
+use Rattle.mp_cells.specs.Trees.{PageMap, row_at, height_of, rows_in}
+use Rattle.mp_cells.specs.Writes.{record_in, undo_at, version_of}
+use Rattle.mp_cells.proofs.Places.{row_in_leaf}
+use Rattle.mp_cells.proofs.Spare.{with_none}
+use Rattle.mp_plans.specs.Fitting.{IsLeafOf}
+use Rattle.mp_core_trx.specs.declared.part.SlotLoad.{SlotLoad}
+use Rattle.mp_core_trx.specs.Parts.{trx, draw_of}
+use Rattle.mp_core_trx.specs.World.{begun_in, drawn_in, loaded_in}
+use Rattle.mp_core_pages.specs.declared.part.GivenPage.{GivenPage}
+use Rattle.mp_histories.specs.KeyOps.{same_writer}
+use Rattle.mp_histories.specs.Readers.{ShowsTo, Takes}
+use Rattle.mp_histories.specs.Histories.{History, older, pages_after, Version, by_version, rows_of_versions, live_on}
+use Rattle.mp_histories.specs.Chains.{row_over, LinksTo, IsChain, row_of_key, RunsFrom, HasChains, StaysNoted, IsPutAt}
+use Rattle.mp_histories.proofs.Writers.{decided, same_is, other_is}
+use Rattle.mp_histories.proofs.ChainFacts.{links_one}
+use Rattle.mp_histories.proofs.Noting.{IsOlder, older_first, noted}
+use Rattle.mp_histories.proofs.Standing.{has_chains, undo_stays, runs_before}
+use Rattle.mp_histories.proofs.LiveRows.{live_put_at}
+use Rattle.mp_core.specs.declared.opening.CoreOpening.{CoreOpening}
+use Rattle.mp_core.specs.Invariant.{NumbersFit}
+use Rattle.mp_core.specs.World.{CoreWorld, core_part}
+use Rattle.mp_facts.specs.Facts.{opening_pages, pages_at_height, pages_now, live_at_height, IsForced, CommittedStamp, Facts}
+use Rattle.mp_supports.specs.Seeing.{ShowsNewest, ShowsNext, IsLoadOf, IsHidden, IsCommittedBelow, IsSettledFor, IsSeenBy, LeadsToSeen}
+use Rattle.mp_verdict.proofs.Options.{some_is, not_some}
+use Rattle.mp_verdict.proofs.OthersFit.{forced_drew, forced_once, OthersCommitted}
+
+-- an id from its node and its slot
+pub id_of : (id : TrxId) (node slot : ℕ) → node ≡ id.node → slot ≡ id.slot → trx node slot id.version ≡ id
+id_of id node slot n s = ap (λ (k : ℕ). trx k slot id.version) n ∙ ap (λ (k : ℕ). trx id.node k id.version) s
+
+module _ (o : CoreOpening) (w : CoreWorld) (fit : NumbersFit o) (facts : Facts o w) where
+  abbrev pub split_at : (height : ℕ) → IsOlder height w.pages.history
+  split_at height = older_first height w.pages.history
+
+  pub runs_at : (height : ℕ) → RunsFrom (opening_pages o) (older height w.pages.history)
+  runs_at height =
+      let split = older_first height w.pages.history in
+      runs_before (opening_pages o) split.newer (older height w.pages.history) (subst (RunsFrom (opening_pages o)) split.split_is facts.of_versions.runs)
+
+  pub chains_at : (height : ℕ) → HasChains (opening_pages o) (older height w.pages.history)
+  chains_at height = has_chains o.trx.base.llsn (opening_pages o) fit.clean (older height w.pages.history) (runs_at height)
+
+  pub chain_at : (height key : ℕ) → StaysNoted (opening_pages o) (older height w.pages.history) w.pages.history key (row_of_key (pages_at_height o w height) key)
+  chain_at height key = noted o.trx.base.llsn (opening_pages o) fit.clean w.pages.history facts.of_versions.runs height key
+
+  put_at : (height key : ℕ) → AllByRecursion (IsPutAt (older height w.pages.history) key) (live_at_height w height key)
+  put_at height key = live_put_at o.trx.base.llsn (opening_pages o) fit.clean (older height w.pages.history) (runs_at height) key
+
+  have_writers : (made : History) (key : ℕ) (vs : List Version) → AllByRecursion (IsPutAt made key) vs → AllByRecursion (λ v. is_some v.row.writer ≡ true) vs
+  have_writers made key [] all = tt
+  have_writers made key (v ∷ vs) all = (all.0.writer, have_writers made key vs all.1)
+
+  pub written_at : (height key : ℕ) → AllByRecursion (λ v. is_some v.row.writer ≡ true) (live_at_height w height key)
+  written_at height key = have_writers (older height w.pages.history) key (live_at_height w height key) (put_at height key)
+
+  module _ (n : ℕ) where
+    -- the newest version that a leaf shows is the key's row at the leaf's height
+    pub newest_row : (g : GivenPage PageView) (key : ℕ) (newest : Row) → ShowsNewest (core_part w n) g key newest → newest ≡ row_of_key (pages_at_height o w g.height) key
+    newest_row g key newest s =
+        let given = facts.of_notes.given n g s.given in
+        let leaf : IsLeafOf key (pages_at_height o w g.height g.number) = subst (IsLeafOf key) given.2 s.its_leaf in
+        let tree = (chains_at g.height).tree in
+        s.newest_is
+        ∙ ap (λ (page : PageView). version_of key (row_at key page.rows)) given.2
+        ∙ ap (version_of key) (sym (row_in_leaf [] (pages_at_height o w g.height) (height_of (pages_at_height o w g.height)) g.number key (with_none (pages_at_height o w g.height) (height_of (pages_at_height o w g.height)) tree) given.0 leaf.kind leaf.from leaf.until))
+
+    -- what an undo page that was given has at a link is there for good
+    pub next_links : (row next : Row) → ShowsNext (core_part w n) row next → LinksTo (undo_at (pages_now o w)) row next
+    next_links row next s =
+        let given = facts.of_notes.given n s.page s.given in
+        let split = older_first s.page.height w.pages.history in
+        let runs = subst (RunsFrom (opening_pages o)) split.split_is facts.of_versions.runs in
+        let then : undo_at (pages_at_height o w s.page.height) s.link ≡ Some next =
+        ap (λ (k : ℕ). record_in (pages_at_height o w s.page.height k) s.link.index) (sym s.number) ∙ ap (λ (page : PageView). record_in page s.link.index) (sym given.2) ∙ s.next_is in
+        let later = undo_stays o.trx.base.llsn (opening_pages o) fit.clean split.newer (older s.page.height w.pages.history) runs s.link next then in
+        record { link = s.link; linked = s.linked; there = ap (λ (h : History). undo_at (pages_after (opening_pages o) h) s.link) split.split_is ∙ later }
+
+    -- a hidden version's writer commits above the view, if ever
+    pub hidden_above : (reader : TrxId) (view : ℕ) (row : Row) → IsHidden (core_part w n) reader view row → (cts : ℕ) → CommittedStamp o w row.writer cts → view < cts
+    hidden_above reader view row h cts c =
+        let same : c.0 ≡ h.writer = some_is c.0 h.writer (sym c.1 ∙ h.its_writer) in
+        let forced : IsForced o w h.writer cts = subst (λ (x : TrxId). IsForced o w x cts) same c.2 in
+        let is : trx h.load.of h.load.slot h.writer.version ≡ h.writer = id_of h.writer h.load.of h.load.slot h.is_load.of h.is_load.slot in
+        let drew = subst (λ (x : TrxId). IsIn (draw_of x cts) (drawn_in w.trx x.node)) (sym is) (forced_drew o w facts h.writer cts forced) in
+        elim h.hides [
+          | inl active ↦
+              let above = (facts.inv.trx.reliable n h.load h.is_load.loaded).active h.writer.version cts active.0 drew in
+              let knew = active.1 in
+              omega (arith, above, knew)
+          | inr (inl committed) ↦
+              let other = facts.of_notes.committed n h.load h.writer.version committed.0 h.is_load.loaded committed.1 in
+              let once : committed.0 ≡ cts = forced_once o w facts h.writer committed.0 cts (subst (λ (x : TrxId). IsForced o w x committed.0) is other) forced in
+              let above = committed.2 in
+              omega (arith, once, above)
+          | inr (inr free) ↦ absurd (facts.of_notes.freed n h.load h.writer.version h.is_load.loaded free cts drew)
+        ]
+
+    -- a version committed at or below a view is so in the world
+    pub committed_below : (view : ℕ) (row : Row) → IsCommittedBelow (core_part w n) view row → (cts : ℕ) × CommittedStamp o w row.writer cts × (cts ≤ view)
+    committed_below view row c =
+        let is : trx c.load.of c.load.slot c.writer.version ≡ c.writer = id_of c.writer c.load.of c.load.slot c.is_load.of c.is_load.slot in
+        let forced = facts.of_notes.committed n c.load c.writer.version c.cts c.is_load.loaded c.committed in
+        (c.cts, (c.writer, c.its_writer, subst (λ (x : TrxId). IsForced o w x c.cts) is forced), c.within)
+
+    module _ (reader : TrxId) (view : ℕ) (last : Row) (unwritten : last.writer ≡ None) where
+      -- the row of a version that was taken, or the last one
+      abbrev pub row_or : Option Version → Row
+      row_or None = last
+      row_or (Some v) = v.row
+
+      pub record IsTaken (vs : List Version) (found : Row) : Type 0 where
+        pub version : Option Version
+        pub takes : Takes by_version (OthersCommitted o w facts reader) (Some reader) view vs version
+        pub its : found ≡ row_or version
+
+      shows : (v : Version) → is_some v.row.writer ≡ true → IsSeenBy (core_part w n) reader view v.row → ShowsTo by_version (OthersCommitted o w facts reader) (Some reader) view v
+      shows v writer (inl own) = inl own
+      shows v writer (inr (inl none)) = absurd (false≢true (ap (λ (x : Option TrxId). is_some x) (sym none) ∙ writer))
+      shows v writer (inr (inr below)) = elim (decided (same_writer (by_version v) (Some reader))) [
+        | inl same ↦ inl (same_is (by_version v) (Some reader) same)
+        | inr other ↦ let c = committed_below view v.row below in inr (c.0, (c.1, other_is (by_version v) (Some reader) other), c.2)
+      ]
+
+      hides : (v : Version) → IsHidden (core_part w n) reader view v.row → ShowsTo by_version (OthersCommitted o w facts reader) (Some reader) view v → ⊥
+      hides v h (inl own) = h.other (some_is h.writer reader (sym h.its_writer ∙ own))
+      hides v h (inr c) = let above = hidden_above reader view v.row h c.0 c.1.0 in let within = c.2 in absurd (omega (arith, above, within))
+
+      pub walked : (vs : List Version) → AllByRecursion (λ v. is_some v.row.writer ≡ true) vs → IsChain (undo_at (pages_now o w)) (rows_of_versions vs) last → (row : Row) → row ≡ row_over (rows_of_versions vs) last → (below : List Row) (found : Row) → LeadsToSeen (core_part w n) reader view row below found → IsTaken vs found
+      walked [] writers chain row is [] found leads = record { version = None; takes = refl; its = leads.0 ∙ is }
+      walked [] writers chain row is (next ∷ below) found leads = absurd (not_some leads.0.writer (sym unwritten ∙ ap (λ (r : Row). r.writer) (sym is) ∙ leads.0.its_writer))
+      walked (v ∷ vs) writers chain row is [] found leads = record {
+        version = Some v;
+        takes = inl (shows v writers.0 (subst (IsSeenBy (core_part w n) reader view) is leads.1), refl);
+        its = leads.0 ∙ is;
+      }
+      walked (v ∷ vs) writers chain row is (next ∷ below) found leads =
+          let same : next ≡ row_over (rows_of_versions vs) last = links_one (undo_at (pages_now o w)) v.row next (row_over (rows_of_versions vs) last) (subst (λ (r : Row). LinksTo (undo_at (pages_now o w)) r next) is (next_links row next leads.1)) chain.0 in
+          let rest = walked vs writers.1 chain.1 next same below found leads.2 in
+          record { version = rest.version; takes = inr (hides v (subst (IsHidden (core_part w n) reader view) is leads.0), rest.takes); its = rest.its }

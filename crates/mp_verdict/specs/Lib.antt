@@ -1,0 +1,10 @@
+pub mod Reads
+pub mod Finished
+pub mod Orders
+pub mod WriteOrder
+pub mod LastValues
+pub mod Writers
+pub mod Standing
+pub mod Told
+pub mod Counting
+pub mod Fullness
