@@ -1,0 +1,13 @@
+pub mod CleanSound
+pub mod SmallChains
+pub mod SmallSettled
+pub mod Filling
+pub mod LeastLane
+pub mod MergeOrder
+pub mod Merged
+pub mod Redone
+pub mod RedoneInOrder
+pub mod GivenRises
+pub mod OnlyRedone
+pub mod RedoneAbove
+pub mod ReadingLogs

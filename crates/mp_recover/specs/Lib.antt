@@ -1,0 +1,9 @@
+pub mod PageRecords
+pub mod KeptCommits
+pub mod Standing
+pub mod Settled
+pub mod Images
+pub mod Merging
+pub mod Redoing
+pub mod ReadingLogs
+pub mod SmallLogs
