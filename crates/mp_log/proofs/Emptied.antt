@@ -1,12 +1,12 @@
 -- A log that is emptied.
-use Rattle.std.proofs.Common.{◌≡◌, ℕ, zero, suc, ◌≤◌, ◌==◌, not, Bool, true, false, List, [], ◌∷◌, ◌++◌, length, take, drop, Some, refl, sym, ap, subst, ◌∙◌, inl, inr, arith}
+use Rattle.std.proofs.Common.{◌≡◌, ℕ, zero, suc, ◌≤◌, ◌==◌, not, Bool, true, false, List, [], ◌∷◌, ◌++◌, length, take, drop, refl, sym, ap, subst, ◌∙◌, inl, inr, arith}
 use mathlib.Core.Logic.{◌⊎◌}
 use mathlib.Core.Bool.{false≢true}
 use Rattle.std.specs.Prelude.{slice_get}
 use Rattle.std.proofs.lemmas.Bool.{eqb-true, eq-eqb}
 use Rattle.mp_cells.specs.declared.records.Mtr.{Mtr}
 use Rattle.mp_outside.specs.Disks.{Torn, Cut}
-use Rattle.mp_log.specs.Logs.{open_gate, batches_text, IsText}
+use Rattle.mp_log.specs.Logs.{open_gate, is_closed_gate, batches_text, IsText}
 
 -- a front of a file that begins with a closed gate
 pub front_empty : (file c : List ℕ) → IsText [] file → Cut 1 file c → IsText [] c
@@ -22,12 +22,21 @@ front_empty file c text cut = by_count (length c) refl
     by_count zero e = absurd (omega (arith, e, reach long))
     by_count (suc n) e = record { gate = text.gate; rest = take n text.rest; closed = text.closed; whole = cut.front ∙ ap (λ (k : ℕ). take k file) e ∙ ap (take (suc n)) text.whole }
 
--- the first byte is no open gate
-pub begins : (file : List ℕ) (byte : ℕ) → slice_get file 0 ≡ Some byte → not (byte == 165) ≡ true → IsText [] file
-begins [] byte h test = absurd cc
-begins (first ∷ rest) byte h test =
-    let same : first ≡ byte = cc in
-    record { gate = first; rest = rest; closed = λ e. absurd (false≢true (sym (ap not (eq-eqb byte 165 (sym same ∙ e))) ∙ test)); whole = refl }
+-- a file whose first byte is a closed gate, and one whose first byte isn't
+pub begins_closed : (file : List ℕ) → is_closed_gate (slice_get file 0) ≡ true → IsText [] file
+begins_closed [] test = absurd (false≢true test)
+begins_closed (first ∷ rest) test = record { gate = first; rest = rest; closed = λ e. absurd (false≢true (sym (ap not (eq-eqb first 165 e)) ∙ test)); whole = refl }
+
+heads : {a b : ℕ} {xs ys : List ℕ} → a ∷ xs ≡ b ∷ ys → a ≡ b
+heads e = cc
+
+pub begins_open : (file : List ℕ) → is_closed_gate (slice_get file 0) ≡ false → IsText [] file → ⊥
+begins_open [] test text = let whole : [] ≡ text.gate ∷ text.rest = text.whole in cc
+begins_open (first ∷ rest) test text = by_test (first == open_gate) refl
+  where
+    by_test : (t : Bool) → (first == open_gate) ≡ t → ⊥
+    by_test true e = text.closed (sym (heads text.whole) ∙ eqb-true first open_gate e)
+    by_test false e = false≢true (sym test ∙ ap not e)
 
 -- a log that doesn't begin with a closed gate has a batch
 some_batch : (batches : List (List Mtr)) (file : List ℕ) → IsText batches file → (IsText [] file → ⊥) → (rest : List ℕ) × (batches_text batches ≡ open_gate ∷ rest)

@@ -1,5 +1,5 @@
 -- What a log holds: batches of mtrs, each behind an open gate, and then a closed gate.
-use Rattle.std.specs.Prelude.{◌≡◌, ◌≢◌, ◌⊎◌, ℕ, ◌≤◌, ◌^◌, List, [], ◌∷◌, ◌++◌, length, IsTrue}
+use Rattle.std.specs.Prelude.{◌≡◌, ◌≢◌, ◌⊎◌, ℕ, ◌≤◌, ◌^◌, ◌==◌, not, Bool, false, if◌then◌else◌, List, [], ◌∷◌, ◌++◌, length, slice_get, Option, Some, None, IsTrue}
 use Rattle.std.specs.List.{flat_map, AllByRecursion}
 use Rattle.byteorder.specs.Endian.{little_bytes}
 use Rattle.mp_cells.specs.declared.records.Mtr.{Mtr}
@@ -10,6 +10,20 @@ use Rattle.mp_redo.specs.Spelling.{mtr_bytes}
 -- an open gate; every other byte is a closed one
 abbrev pub open_gate : ℕ
 open_gate = 165
+
+-- the first byte of a file, where it has one, is an open gate, or is a closed one
+abbrev pub is_open_gate : Option ℕ → Bool
+is_open_gate None = false
+is_open_gate (Some gate) = gate == open_gate
+
+abbrev pub is_closed_gate : Option ℕ → Bool
+is_closed_gate None = false
+is_closed_gate (Some gate) = not (gate == open_gate)
+
+-- how many calls of its disk a file takes to be emptied: six where its first gate is open, which is read and then closed;
+-- five where it is closed already, or where there is none to be read
+abbrev pub reset_calls : List ℕ → ℕ
+reset_calls file = if is_open_gate (slice_get file 0) then 6 else 5
 
 -- the most bytes of mtrs in a batch
 abbrev pub most_batch_bytes : ℕ

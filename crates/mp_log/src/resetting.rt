@@ -1,21 +1,21 @@
 //! Emptying a log, and making a fresh one.
 
-ghost use Rattle.std.specs.Prelude.{◌≡◌, ◌≢◌, ◌≤◌, List, [], ◌∷◌, length, true, false, IsTrue, IfOk, OnOk};
+ghost use Rattle.std.specs.Prelude.{◌≡◌, ◌≢◌, ◌≤◌, List, [], ◌∷◌, length, slice_get, is_some, if◌then◌else◌, IsTrue, IfOk, OnOk};
 ghost use Rattle.mp_outside.specs.Disks.{Quiet, Only, Counts};
 ghost use Rattle.mp_gated.specs.Gates.{calls_after, CallsMade};
 ghost use Rattle.mp_cells.specs.declared.records.Mtr.{Mtr};
-ghost use Rattle.mp_log.specs.Logs.{IsText, HoldsOnly, HoldsEither};
+ghost use Rattle.mp_log.specs.Logs.{IsText, HoldsOnly, HoldsEither, is_open_gate, is_closed_gate, reset_calls};
 
 use crate::batches::OPEN;
 use mp_gated::write_safely;
-use mp_outside::{Disk, Failed, byte_at};
+use mp_outside::{Disk, Failed};
 
 /// The byte of a closed gate that a log writes.
 const CLOSED: u8 = 0;
 
 /// Empties a log, whatever its file holds: closes its first gate, unless it is closed, syncs, cuts the file to that gate,
 /// and syncs. It is refused where one of these calls or a read is. A gate that is closed isn't written, since a crash
-/// could leave it open.
+/// could leave it open. It makes six calls of the disk where the gate was open, else five.
 pub fn reset<D: Disk>(disk: &mut D) -> Result<(), Failed>
     ensures tells { D.tells disk.new ≡ D.tells disk.old }
     // After Ok the log is a closed gate alone, and a crash leaves it.
@@ -26,6 +26,9 @@ pub fn reset<D: Disk>(disk: &mut D) -> Result<(), Failed>
     // Whatever it answers, each image of a log holds its batches or none.
     ensures either { (batches : List (List Mtr)) → IsTrue (D.tells disk.old) → HoldsOnly batches (D.image disk.old) → HoldsEither batches [] (D.image disk.new) }
     ensures counts { Counts result (D.faults disk.old) (D.faults disk.new) }
+    ensures calls { CallsMade 6 (D.calls disk.old) (D.calls disk.new) }
+    ensures least { OnOk result (calls_after 5 (D.calls disk.old) ≤ D.calls disk.new) }
+    ensures all { IsTrue (D.tells disk.old) → OnOk result (D.calls disk.new ≡ calls_after (reset_calls (D.seen disk.old)) (D.calls disk.old)) }
 {
     close_first(disk)?;
     cut_behind_first(disk)
@@ -45,18 +48,33 @@ pub fn init<D: Disk>(disk: &mut D) -> Result<(), Failed>
     write_safely(disk, 0, &[CLOSED])
 }
 
-// Whether the file has a first byte that is no open gate.
-fn begins_closed<D: Disk>(disk: &mut D) -> Result<bool, Failed>
+// The first byte of the file, where it has one.
+fn first_byte<D: Disk>(disk: &mut D) -> Result<Option<u8>, Failed>
     ensures tells { D.tells disk.new ≡ D.tells disk.old }
     ensures quiet { Quiet (D.seen disk.old) (D.image disk.old) (D.seen disk.new) (D.image disk.new) }
-    ensures closed { IsTrue (D.tells disk.old) → IfOk result (λ closed. closed ≡ true → IsText [] (D.seen disk.old)) }
-    ensures or_not { IsTrue (D.tells disk.old) → IfOk result (λ closed. closed ≡ false → ¬ IsText [] (D.seen disk.old)) }
+    ensures byte { IsTrue (D.tells disk.old) → IfOk result (λ first. slice_get (D.seen disk.old) 0 ≡ first) }
     ensures counts { Counts result (D.faults disk.old) (D.faults disk.new) }
+    ensures calls { CallsMade 2 (D.calls disk.old) (D.calls disk.new) }
+    ensures all { IfOk result (λ first. D.calls disk.new ≡ calls_after (if is_some first then 2 else 1) (D.calls disk.old)) }
 {
     if disk.length()? == 0 {
-        return Ok(false);
+        return Ok(None);
     }
-    Ok(byte_at(disk, 0)? != OPEN)
+    let mut first = [0];
+    if disk.read(0, &mut first)? == 0 {
+        return Err(Failed);
+    }
+    Ok(Some(first[0]))
+}
+
+// Whether there is a first byte, and it is no open gate.
+fn is_closed(first: Option<u8>) -> bool
+    ensures { result ≡ is_closed_gate first }
+{
+    match first {
+        Some(gate) => gate != OPEN,
+        None => false,
+    }
 }
 
 // Makes the first byte a closed gate, where it is none.
@@ -65,8 +83,11 @@ fn close_first<D: Disk>(disk: &mut D) -> Result<(), Failed>
     ensures closed { IsTrue (D.tells disk.old) → OnOk result (IsText [] (D.seen disk.new)) }
     ensures either { (batches : List (List Mtr)) → IsTrue (D.tells disk.old) → HoldsOnly batches (D.image disk.old) → HoldsEither batches [] (D.image disk.new) }
     ensures counts { Counts result (D.faults disk.old) (D.faults disk.new) }
+    ensures calls { CallsMade 3 (D.calls disk.old) (D.calls disk.new) }
+    ensures least { OnOk result (calls_after 2 (D.calls disk.old) ≤ D.calls disk.new) }
+    ensures all { IsTrue (D.tells disk.old) → OnOk result (D.calls disk.new ≡ calls_after (if is_open_gate (slice_get (D.seen disk.old) 0) then 3 else 2) (D.calls disk.old)) }
 {
-    if begins_closed(disk)? {
+    if is_closed(first_byte(disk)?) {
         return Ok(());
     }
     disk.write_at(0, &[CLOSED])
@@ -81,6 +102,8 @@ fn cut_behind_first<D: Disk>(disk: &mut D) -> Result<(), Failed>
     ensures emptied { IsTrue (D.tells disk.old) → IsText [] (D.seen disk.old) → OnOk result (HoldsOnly [] (D.image disk.new)) }
     ensures either { (batches : List (List Mtr)) → IsTrue (D.tells disk.old) → IsText [] (D.seen disk.old) → HoldsEither batches [] (D.image disk.old) → HoldsEither batches [] (D.image disk.new) }
     ensures counts { Counts result (D.faults disk.old) (D.faults disk.new) }
+    ensures calls { CallsMade 3 (D.calls disk.old) (D.calls disk.new) }
+    ensures all { OnOk result (D.calls disk.new ≡ calls_after 3 (D.calls disk.old)) }
 {
     disk.sync()?;
     disk.cut(1)?;

@@ -1,10 +1,11 @@
 -- Worked replies: refusals, waits, copies and scans.
-use Rattle.std.specs.Prelude.{[], ◌∷◌, None}
+use Rattle.std.specs.Prelude.{ℕ, [], ◌∷◌, None}
 use Rattle.mp_model.specs.declared.replies.Reply.TheVariants.{Began, Got, Scanned, Wrote, Committed, CommittedNone, RolledBack, Conflict, Held, Full, Skipped}
 use Rattle.mp_model.specs.declared.replies.WriteVerb.TheVariants as verb
-use Rattle.mp_script.specs.Execution.{Execution}
-use Rattle.mp_script.specs.Worked.{reply_to, reply_after, trx_named, step_of, all_of, row}
-use Rattle.mp_script.specs.WorkedScripts.{same_key, same_key_rolled, crossed, in_a_circle, put_again, copied, scanned_rows}
+use Rattle.mp_model.specs.declared.transcripts.Mode.TheVariants.{Step}
+use Rattle.mp_script.specs.Execution.{Execution, execution_of}
+use Rattle.mp_script.specs.Worked.{reply_to, reply_after, trx_named, answers_below, step_of, all_of, row}
+use Rattle.mp_script.specs.WorkedScripts.{same_key, same_key_rolled, crossed, in_a_circle, put_again, put_once, copied, scanned_rows}
 
 -- the first waits for the second, and is refused by its commit
 abbrev pub conflict_after_a_wait : Execution
@@ -33,6 +34,16 @@ copy_of_no_row = step_of copied (reply_to 1 (Began 0) ∷ reply_to 1 (Wrote verb
 -- they show what the transaction wrote
 abbrev pub scans_of_own_writes : Execution
 scans_of_own_writes = step_of scanned_rows (reply_to 1 (Began 0) ∷ reply_to 1 (Wrote verb.Put) ∷ reply_to 1 (Wrote verb.Put) ∷ reply_to 1 (Wrote verb.Put) ∷ reply_to 1 (Wrote verb.Del) ∷ reply_to 1 (Scanned (all_of (row 1 (97 ∷ []) ∷ row 3 (99 ∷ []) ∷ []))) ∷ reply_to 1 (Scanned (all_of (row 3 (99 ∷ []) ∷ []))) ∷ reply_to 1 (Scanned (all_of ([]))) ∷ reply_to 1 (Committed 1) ∷ []) [] 1
+
+-- the one write is refused over a store without rows of which so many pages are taken
+abbrev pub full_over : ℕ → Execution
+full_over taken = execution_of put_once (record { base = 0; taken = taken; rows = all_of [] }) (record {
+  mode = Step;
+  base = 0;
+  parts = all_of (record { primary = 0; answers = all_of (answers_below [] (reply_to 1 (Began 0) ∷ reply_to 1 (Full verb.Put) ∷ reply_to 1 Skipped ∷ [])) } ∷ []);
+  downs = all_of [];
+  commits = 0;
+})
 
 -- there is no commit with the number 2
 abbrev pub conflict_with_no_commit : Execution

@@ -24,6 +24,10 @@ in_a_circle = script_on 3 (on 1 1 ∷ on 2 2 ∷ on 3 3 ∷ []) ((1, Begin) ∷ 
 abbrev pub put_again : Script
 put_again = script_on 1 (on 1 1 ∷ []) ((1, Begin) ∷ (1, Put 5 (97 ∷ [])) ∷ (1, Commit) ∷ (1, Begin) ∷ (1, Put 5 (98 ∷ [])) ∷ (1, Commit) ∷ [])
 
+-- one session puts key 5 and commits
+abbrev pub put_once : Script
+put_once = script_on 1 (on 1 1 ∷ []) ((1, Begin) ∷ (1, Put 5 (97 ∷ [])) ∷ (1, Commit) ∷ [])
+
 -- a copy of a key without a row
 abbrev pub copied : Script
 copied = script_on 1 (on 1 1 ∷ []) ((1, Begin) ∷ (1, Put 2 (98 ∷ [])) ∷ (1, Copy 1 2) ∷ (1, Get 2) ∷ (1, Commit) ∷ [])

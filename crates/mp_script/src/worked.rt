@@ -9,7 +9,7 @@ ghost use Rattle.mp_script.specs.WorkedReplies.{conflict_after_a_wait, conflict_
 ghost use Rattle.mp_script.specs.WorkedReplies.{held_by_an_older, held_and_conflict, copy_of_no_row};
 ghost use Rattle.mp_script.specs.WorkedReplies.{scans_of_own_writes, conflict_with_no_commit, commit_after_a_refusal};
 ghost use Rattle.mp_script.specs.WorkedReplies.{waits_twice, held_by_a_younger, conflict_with_itself};
-ghost use Rattle.mp_script.specs.WorkedReplies.{full_of_few_writes};
+ghost use Rattle.mp_script.specs.WorkedReplies.{full_of_few_writes, full_over};
 ghost use Rattle.mp_script.specs.WorkedViews.{old_value_twice, unknown_is_not_read, numbers_across_parts};
 ghost use Rattle.mp_script.specs.WorkedViews.{view_across_parts, new_value_then, read_of_unknown, get_that_waits};
 ghost use Rattle.mp_script.specs.WorkedViews.{view_at_the_base, view_below_unknown, view_below_its_part};
@@ -22,9 +22,9 @@ ghost use Rattle.mp_script.specs.WorkedParts.{one_left, one_too_many, in_the_oth
 ghost use Rattle.mp_script.specs.WorkedParts.{number_twice, number_at_its_view, commit_that_is_not_there, nothing_over};
 ghost use Rattle.mp_script.specs.WorkedParts.{rows_in_order, rows_out_of_order};
 
-/// Refusals, waits, copies and scans that are right. Wrong ones: a conflict with no such commit or with a commit of the
-/// same session, a commit after a refusal, a wait that is named twice, a holder that is younger, and a store that is full
-/// of two writes.
+/// Refusals, waits, copies and scans that are right, among them a write that is refused with four pages left. Wrong
+/// ones: a conflict with no such commit or with a commit of the same session, a commit after a refusal, a wait that is
+/// named twice, a holder that is younger, a store that is full of two writes, and one that is full with five pages left.
 pub fn law_worked_replies()
     ensures conflict_after_a_wait { IsLegal conflict_after_a_wait }
     ensures conflict_without_a_wait { IsLegal conflict_without_a_wait }
@@ -33,12 +33,14 @@ pub fn law_worked_replies()
     ensures held_and_conflict { IsLegal held_and_conflict }
     ensures copy_of_no_row { IsLegal copy_of_no_row }
     ensures scans_of_own_writes { IsLegal scans_of_own_writes }
+    ensures full_with_four_left { IsLegal (full_over 4092) }
     ensures conflict_with_no_commit { ¬ RepliesAreRight conflict_with_no_commit }
     ensures commit_after_a_refusal { ¬ RepliesAreRight commit_after_a_refusal }
     ensures waits_twice { ¬ RepliesAreRight waits_twice }
     ensures held_by_a_younger { ¬ RepliesAreRight held_by_a_younger }
     ensures conflict_with_itself { ¬ RepliesAreRight conflict_with_itself }
     ensures full_of_few_writes { ¬ RepliesAreRight full_of_few_writes }
+    ensures full_with_five_left { ¬ RepliesAreRight (full_over 4091) }
 {}
 
 /// Views that stay and that cross parts, in both modes; and wrong ones: a value of a later commit or of one whose end is

@@ -6,3 +6,4 @@ pub mod GrowthShapes
 pub mod NewPages
 pub mod PlanWrite
 pub mod PlanAsking
+pub mod PlanSize

@@ -1,13 +1,11 @@
 -- A plan's calls on its pager: those of the search, and then page 0.
-use Rattle.std.proofs.Common.{◌≡◌, ℕ, ◌+◌, ◌-◌, ◌^◌, ◌≤◌, min, List, [], ◌∷◌, ◌++◌, length, Result, Ok, Err, IfErr, refl, subst, ◌∙◌, arith}
-use Rattle.std.specs.List.{AllByRecursion}
+use Rattle.std.proofs.Common.{◌≡◌, ℕ, ◌+◌, ◌-◌, ◌^◌, ◌≤◌, min, List, ◌++◌, Result, Ok, Err, IfErr, subst, ◌∙◌, arith}
 use Rattle.std.proofs.lemmas.List.{length-append}
 use Rattle.mp_model.specs.declared.waiting.NotYet.{NotYet}
-use Rattle.mp_cells.specs.PageView.{PageView}
-use Rattle.mp_cells.specs.Trees.{PageMap, uses}
+use Rattle.mp_cells.specs.Trees.{PageMap}
 use Rattle.mp_cells.proofs.KeyEdits.{All-append}
 use Rattle.mp_cells.proofs.Uses.{uses-append}
-use Rattle.mp_page.specs.Pagers.{Handed, Extends}
+use Rattle.mp_page.specs.Pagers.{Handed}
 use Rattle.mp_tree.specs.declared.write.PlanRefusal.{PlanRefusal}
 use Rattle.mp_tree.specs.declared.write.PlanRefusal.TheVariants as refusals
 use Rattle.mp_tree.specs.Searches.{Asks}

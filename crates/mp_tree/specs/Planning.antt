@@ -3,7 +3,7 @@ use Rattle.std.specs.Prelude.{◌≡◌, ℕ, zero, suc, ◌+◌, ◌-◌, ◌<�
 use Rattle.mp_cells.specs.declared.kinds.Kind.TheVariants.{Leaf, Inner, Undo}
 use Rattle.mp_cells.specs.declared.rows.Link.{Link}
 use Rattle.mp_cells.specs.PageView.{PageView, IsPage, bit_of}
-use Rattle.mp_cells.specs.Trees.{PageMap, root, leaf_at, child_at}
+use Rattle.mp_cells.specs.Trees.{PageMap}
 use Rattle.mp_plans.specs.Growth as grows
 use Rattle.mp_plans.specs.Growth.{growth_of, pages_needed, write_plan, new_pages}
 use Rattle.mp_tree.specs.declared.search.Stop.{Stop}

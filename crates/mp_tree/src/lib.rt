@@ -5,6 +5,7 @@ mod changes;
 mod clear;
 mod growth;
 mod halves;
+mod laws;
 mod leaf;
 mod new_pages;
 mod plan;
@@ -12,6 +13,7 @@ mod restore;
 mod search;
 mod write;
 
+pub use laws::law_plan_size;
 pub use leaf::{row_in, rows_in};
 pub use plan::Plan;
 pub use restore::plan_restore;

@@ -132,33 +132,6 @@ fn write_of(key: u32) -> Write
 const TOP: u64 = 1 << 32;
 
 #[test]
-fn the_worked_plan(rt: HostRuntime) -> Result<(), Fail> {
-    let mut pager = worked_tree(0).ok_or("three pages")?;
-    let mut plan = Plan::new(rt.alloc()).ok().ok_or("there is memory")?;
-    let write = write_of(16);
-    let kind = plan_write(&mut pager, &write, Some(2), &mut plan);
-    assert_eq!(rt; kind, Ok(PlanKind::RootSplit));
-    assert_eq!(rt; plan.len(), 9);
-    let expected = [
-        (0, ("take", 3, 0, 0)),
-        (0, ("take", 4, 0, 0)),
-        (0, ("take", 5, 0, 0)),
-        (3, ("undo page", 0, 0, 0)),
-        (4, ("leaf", 0, 9, 8)),
-        (5, ("leaf", 9, TOP, 7)),
-        (1, ("inner", 0, TOP, 2)),
-        (3, ("undo", 16, 0, 0)),
-        (5, ("row", 16, 0, 0)),
-    ];
-    for (i, expected) in expected.iter().enumerate() {
-        if i < plan.len() {
-            assert_eq!(rt; (plan.page(i), outline(plan.change(i))), *expected);
-        }
-    }
-    Ok(())
-}
-
-#[test]
 fn two_clear_pages_are_too_few(rt: HostRuntime) -> Result<(), Fail> {
     let mut pager = worked_tree(511).ok_or("three pages")?;
     let mut plan = Plan::new(rt.alloc()).ok().ok_or("there is memory")?;
@@ -316,15 +289,173 @@ fn is_filled(store: &mut Store) -> bool {
     true
 }
 
-// Writes the keys below a bound in ascending order. Whether each could be written, and the next one then finds no page.
-fn is_full_behind(store: &mut Store, plan: &mut Plan, bound: u32) -> bool {
-    let mut undo = None;
-    for key in 0..bound {
-        if plan_write(store, &write_of(key), undo, plan).is_err() || !store.apply_all(plan) {
+// Writes the keys from one on and below another, in ascending order. Answers the undo page then, or none where a key
+// couldn't be written.
+fn put_keys(
+    store: &mut Store,
+    plan: &mut Plan,
+    from: u32,
+    until: u32,
+    undo: Option<u16>,
+) -> Option<Option<u16>>
+    requires { IfSome undo (λ u. (2 ≤ u) × (u < 4096)) }
+    ensures { IfSome result (λ last. IfSome last (λ u. (2 ≤ u) × (u < 4096))) }
+{
+    let mut last = undo;
+    for key in from..until {
+        if plan_write(store, &write_of(key), last, plan).is_err() || !store.apply_all(plan) {
+            return None;
+        }
+        last = undo_page(plan);
+    }
+    Some(last)
+}
+
+// Whether a plan's changes are these.
+fn is_outlined(plan: &Plan, changes: &[(u16, (&str, u64, u64, usize))]) -> bool {
+    for i in 0..plan.len() {
+        if changes.get(i) != Some(&(plan.page(i), outline(plan.change(i)))) {
             return false;
         }
-        undo = undo_page(plan);
     }
+    plan.len() == changes.len()
+}
+
+// Keys 1, 2, .. into a fresh store. Put 16 splits the root, a leaf of 15 rows, and makes the second undo page. Put 24
+// splits the second leaf. Put 1,000 splits the 124th leaf, in page 192, whose parent is the root with 124 children: so the
+// root is split too. Put 1,496 splits the 186th leaf, and its parent, page 195 with 124 children, under the root.
+#[test]
+fn the_first_splits(rt: HostRuntime) -> Result<(), Fail> {
+    let mut store = fresh_store(rt.alloc()).ok_or("a store")?;
+    let mut plan = Plan::new(rt.alloc()).ok().ok_or("there is memory")?;
+    let table = [
+        (
+            16,
+            PlanKind::RootSplit,
+            [
+                (0, ("take", 3, 0, 0)),
+                (0, ("take", 4, 0, 0)),
+                (0, ("take", 5, 0, 0)),
+                (3, ("undo page", 0, 0, 0)),
+                (4, ("leaf", 0, 9, 8)),
+                (5, ("leaf", 9, TOP, 7)),
+                (1, ("inner", 0, TOP, 2)),
+                (3, ("undo", 16, 0, 0)),
+                (5, ("row", 16, 0, 0)),
+            ]
+            .as_slice(),
+        ),
+        (
+            24,
+            PlanKind::Split,
+            &[
+                (0, ("take", 6, 0, 0)),
+                (6, ("leaf", 17, TOP, 7)),
+                (5, ("cut", 17, 0, 0)),
+                (1, ("child", 17, 6, 0)),
+                (3, ("undo", 24, 0, 0)),
+                (6, ("row", 24, 0, 0)),
+            ],
+        ),
+        (
+            1000,
+            PlanKind::RootSplit,
+            &[
+                (0, ("take", 193, 0, 0)),
+                (0, ("take", 194, 0, 0)),
+                (0, ("take", 195, 0, 0)),
+                (193, ("leaf", 993, TOP, 7)),
+                (192, ("cut", 993, 0, 0)),
+                (194, ("inner", 0, 497, 62)),
+                (195, ("inner", 497, TOP, 62)),
+                (1, ("inner", 0, TOP, 2)),
+                (195, ("child", 993, 193, 0)),
+                (191, ("undo", 1000, 0, 0)),
+                (193, ("row", 1000, 0, 0)),
+            ],
+        ),
+        (
+            1496,
+            PlanKind::Split,
+            &[
+                (0, ("take", 290, 0, 0)),
+                (0, ("take", 291, 0, 0)),
+                (290, ("leaf", 1489, TOP, 7)),
+                (289, ("cut", 1489, 0, 0)),
+                (291, ("inner", 993, TOP, 62)),
+                (195, ("cut", 993, 0, 0)),
+                (291, ("child", 1489, 290, 0)),
+                (1, ("child", 993, 291, 0)),
+                (288, ("undo", 1496, 0, 0)),
+                (290, ("row", 1496, 0, 0)),
+            ],
+        ),
+    ];
+    let mut from = 1;
+    let mut undo = None;
+    for (key, kind, changes) in table {
+        undo = put_keys(&mut store, &mut plan, from, key, undo).ok_or("each is written")?;
+        let planned = plan_write(&mut store, &write_of(key), undo, &mut plan);
+        assert_eq!(rt; planned, Ok(kind), "put {key}");
+        assert!(rt; is_outlined(&plan, changes), "put {key}");
+        from = key;
+    }
+    Ok(())
+}
+
+// The key of the i-th row, record or child of a page; 0 where there is none.
+fn key_at(page: &Page, i: u16) -> u32 {
+    match page.kind() {
+        Kind::Leaf if i < page.count() => page.row(i).key,
+        Kind::Undo if i < page.count() => page.row(i).key,
+        Kind::Inner if i < page.count() => page.child(i).low,
+        _ => 0,
+    }
+}
+
+// A page in short: its kind, its fences, its count, and its first and its last key.
+fn page_outline(page: &Page) -> (Kind, u64, u64, u16, u32, u32) {
+    let count = page.count();
+    let last = if 0 < count { count - 1 } else { 0 };
+    (
+        page.kind(),
+        page.low(),
+        page.high(),
+        count,
+        key_at(page, 0),
+        key_at(page, last),
+    )
+}
+
+// The pages behind the first split, of keys 1 to 16.
+#[test]
+fn pages_after_sixteen_puts(rt: HostRuntime) -> Result<(), Fail> {
+    let mut store = fresh_store(rt.alloc()).ok_or("a store")?;
+    let mut plan = Plan::new(rt.alloc()).ok().ok_or("there is memory")?;
+    let undo = put_keys(&mut store, &mut plan, 1, 17, None);
+    assert_eq!(rt; undo, Some(Some(3)));
+    let table = [
+        (Kind::Meta, 0, 0, 6, 0, 0),
+        (Kind::Inner, 0, TOP, 2, 0, 9),
+        (Kind::Undo, 0, 0, 15, 1, 15),
+        (Kind::Undo, 0, 0, 1, 16, 16),
+        (Kind::Leaf, 0, 9, 8, 1, 8),
+        (Kind::Leaf, 9, TOP, 8, 9, 16),
+        (Kind::Blank, 0, 0, 0, 0, 0),
+    ];
+    for (number, page) in table.iter().enumerate() {
+        if number < store.pages.len() {
+            assert_eq!(rt; page_outline(store.pages.get(number)), *page);
+        }
+    }
+    Ok(())
+}
+
+// Whether the keys below a bound could be written in ascending order, and the next one then finds no page.
+fn is_full_behind(store: &mut Store, plan: &mut Plan, bound: u32) -> bool {
+    let Some(undo) = put_keys(store, plan, 0, bound, None) else {
+        return false;
+    };
     let full = PlanRefusal::Full {
         needed: 1,
         clear: 0,

@@ -1,6 +1,6 @@
 -- By the tests, and each reply by its case.
 use Rattle.std.proofs.Common.{refl, [], ◌∷◌, arith}
-use Rattle.mp_script.specs.WorkedReplies.{conflict_after_a_wait, conflict_without_a_wait, ok_after_a_rollback, held_by_an_older, held_and_conflict, copy_of_no_row, scans_of_own_writes}
+use Rattle.mp_script.specs.WorkedReplies.{conflict_after_a_wait, conflict_without_a_wait, ok_after_a_rollback, held_by_an_older, held_and_conflict, copy_of_no_row, scans_of_own_writes, full_over}
 use Rattle.mp_script.proofs.Tested.{tested_legal}
 use Rattle.mp_script.proofs.worked.law_worked_replies.Goals as goal
 
@@ -164,5 +164,15 @@ returns-clause-scans_of_own_writes c = tested_legal scans_of_own_writes (1 ∷ [
             ),
           ),
         ),
+      ),
+    ) refl tt tt refl
+
+pub returns-clause-full_with_four_left : goal.returns-clause-full_with_four_left
+returns-clause-full_with_four_left c = tested_legal (full_over 4092) (1 ∷ [])
+    (record { base = refl; rows = tt; parts = refl }) (
+      record { line = _; found = refl; reply = refl; follows = refl; waits = refl },
+      (
+        record { line = _; found = refl; reply = (5, refl, omega arith); follows = refl; waits = (tt, tt) },
+        (record { line = _; found = refl; reply = refl; follows = refl; waits = refl }, tt),
       ),
     ) refl tt tt refl

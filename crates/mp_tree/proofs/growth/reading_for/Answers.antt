@@ -1,5 +1,5 @@
 -- The path, and the place of the undo record; the path shows how the tree grows.
-use Rattle.std.proofs.Common.{◌≡◌, ℕ, Option, Some, refl, ap, inl, inr, arith}
+use Rattle.std.proofs.Common.{◌≡◌, ℕ, Some, refl, ap, inl, inr, arith}
 use Rattle.mp_cells.specs.Trees.{PageMap}
 use Rattle.mp_page.specs.Pagers.{Extends}
 use Rattle.mp_tree.specs.declared.search.Path.{Path}

@@ -1,11 +1,10 @@
 -- The search goes down a level, or ends.
-use Rattle.std.proofs.Common.{◌≡◌, ℕ, suc, ◌+◌, ◌<◌, ◌≤◌, Option, Some, refl, sym, ap, subst, ◌∙◌, arith}
+use Rattle.std.proofs.Common.{◌≡◌, ℕ, suc, ◌+◌, refl, sym, ap, subst, ◌∙◌, arith}
 use Rattle.mp_cells.specs.declared.children.Child.{Child}
 use Rattle.mp_cells.specs.declared.kinds.Kind.TheVariants.{Leaf, Inner}
 use Rattle.mp_cells.specs.PageView.{PageView}
 use Rattle.mp_cells.specs.Trees.{PageMap, child_at, leaf_at, root}
-use Rattle.mp_page.specs.Pagers.{Handed, Extends}
-use Rattle.mp_tree.specs.declared.search.Stop.{Stop}
+use Rattle.mp_page.specs.Pagers.{Extends}
 use Rattle.mp_tree.specs.Searches.{IsOnPath, stop_above}
 use Rattle.mp_tree.proofs.Descent.{Reached, begins, goes_on, stops, ends_at, not_lost, not_deep, leaf_at-more, parent_kept}
 use Rattle.mp_tree.proofs.Asking.{Unwaited, extends_before, asked_none, asked_more, asked_page, asked_all, asked_wait}
