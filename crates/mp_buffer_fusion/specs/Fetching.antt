@@ -1,5 +1,6 @@
 -- What a call for a page answers and leaves.
 use Rattle.std.specs.Prelude.{◌≡◌, ℕ, ◌+◌, List, [], ◌∷◌, ◌++◌, Option, Some, None, Result, MatchResult}
+use Rattle.std.specs.Borrow.{Bor}
 use Rattle.mp_model.specs.declared.waiting.NotYet.{NotYet}
 use Rattle.mp_model.specs.declared.waiting.WordKind.TheVariants.{Frame}
 use Rattle.mp_cells.specs.PageView.{PageView}
@@ -37,4 +38,10 @@ Fetched p k pool later before after steps counted b =
 abbrev pub FetchesPlace : ℕ → ℕ → List Buffer → List Buffer → NodeView → NodeView → ℕ → ℕ → Result ℕ NotYet → Type 0
 FetchesPlace p k pool later before after steps counted result = MatchResult result
     (λ i. (b : Buffer) × StandsAt later k i b × Fetched p k pool later before after steps counted b)
+    (MissesPage p k pool later before after steps counted)
+
+-- the answer is the page in its buffer, or that the frame was missed
+abbrev pub FetchesShown : ℕ → ℕ → List Buffer → List Buffer → NodeView → NodeView → ℕ → ℕ → Result (Bor PageView) NotYet → Type 0
+FetchesShown p k pool later before after steps counted result = MatchResult result
+    (λ page. (b : Buffer) × (page.now ≡ b.page) × Fetched p k pool later before after steps counted b)
     (MissesPage p k pool later before after steps counted)

@@ -3,4 +3,5 @@ pub mod Places
 pub mod Agreement
 pub mod Visits
 pub mod Fetching
+pub mod Lending
 pub mod PoolExamples

@@ -1,5 +1,6 @@
 //! How pages come into buffers, and how they go back into their frames.
 ghost use Rattle.std.specs.Prelude.{◌≡◌, ◌<◌, [], Some};
+ghost use Rattle.std.specs.Borrow.{sem};
 ghost use Rattle.mp_cells.specs.PageView.{PageView};
 ghost use Rattle.mp_core_pages.specs.declared.opening.TheConstants.{PAGES};
 ghost use Rattle.mp_core_pages.specs.declared.page_lock.Held.TheVariants.{No, Write};
@@ -10,10 +11,12 @@ ghost use Rattle.mp_buffer_fusion.specs.Buffers.{buffer_of, IsBuffered, HasRoom,
 ghost use Rattle.mp_buffer_fusion.specs.Agreement.{AgreesIn, IsDurablePage, IsInFrame};
 ghost use Rattle.mp_buffer_fusion.specs.Visits.{Visits};
 ghost use Rattle.mp_buffer_fusion.specs.Fetching.{frame_missed as frame_missed_of, FetchesPlace};
+ghost use Rattle.mp_buffer_fusion.specs.Lending.{HandsBuffer};
 
 use crate::pool::Pool;
 use crate::visits::{read_frame, write_frame};
 use mp_model::{NotYet, WordKind};
+use mp_page::Page;
 use mp_shared::{Node, Shared};
 use mp_steps::{Ledger, Steps};
 
@@ -61,6 +64,34 @@ impl Pool {
         };
         steps.tick();
         Ok(self.add(number, page))
+    }
+
+    /// The page with this number, which `p` holds, with the newest content. It is fetched as `fetch` does, with the same
+    /// answers.
+    pub fn page<L: Ledger>(
+        &mut self,
+        shared: &Shared,
+        node: &mut Node,
+        p: u8,
+        number: u16,
+        steps: &mut Steps<L>,
+    ) -> Result<&Page, NotYet>
+        requires run { node.old.run ≡ shared.now }
+        requires reached { Reached node.old }
+        requires part { HoldsPart node.old p }
+        requires page { number < PAGES }
+        requires lock { ¬ (held_in node.old p number ≡ No) }
+        requires frames { node.old.frames ≡ [] }
+        requires agrees { AgreesIn self.old node.old p }
+        requires room { HasRoom self.old number }
+        ensures* hands { sem 𝓛 (HandsBuffer self.entry p number node.old node.new steps.old steps.new result) }
+        ensures node { (node.new.run ≡ node.old.run) × (node.new.frames ≡ []) }
+        ensures reached { Reached node.new }
+    {
+        match self.fetch(shared, node, p, number, steps) {
+            Ok(i) => Ok(&self.buffers[i].page),
+            Err(wait) => Err(wait),
+        }
     }
 
     /// Puts a page that `p` writes, and that has a buffer, into the page's frame: the frame has the buffer's page then, with
