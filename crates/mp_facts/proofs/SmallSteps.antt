@@ -21,7 +21,7 @@ use Rattle.mp_core.specs.declared.part.CorePart.{CorePart}
 use Rattle.mp_core.specs.Contents.{page_ops, contents_of}
 use Rattle.mp_core.specs.MtrKinds.{MayLog}
 use Rattle.mp_core.specs.World.{core_part}
-use Rattle.mp_facts.specs.SmallRuns.{three_pages, world_after, MayAllCome, takes_page_one, puts_row, puts_back, hands_leaf_over}
+use Rattle.mp_facts.specs.SmallRuns.{three_pages, world_after, MayAllCome, comes_to_write, puts_row, puts_back, hands_leaf_over}
 use Rattle.mp_facts.proofs.SmallRestore.{restore_well}
 
 pub writes : Write ≡ No → ⊥
@@ -38,7 +38,7 @@ two = (lit≤ tt, lit≤ tt)
 
 -- node 1's part before the put, and after it
 abbrev before_put : List CoreEvent
-before_put = Trx (StoreActive 1 (small_trx 0)) ∷ takes_page_one 0 ++ takes_page_one 1 ++ takes_page_one 2
+before_put = Trx (StoreActive 1 (small_trx 0)) ∷ comes_to_write 0 ++ comes_to_write 1 ++ comes_to_write 2
 
 abbrev putter : CorePart
 putter = core_part (world_after before_put) 1

@@ -49,5 +49,5 @@ abbrev pub put_over_slot_one : Mtr
 put_over_slot_one = record { node = 1; llsn = 5; records = records.Page 0 0 (TakePage 2) ∷ records.Page 2 0 MakeUndo ∷ records.Page 2 5 (PutUndo slot_one_row) ∷ records.Page 1 0 (PutRow small_row) ∷ [] }
 
 -- the commit record of the first transaction
-abbrev pub small_commit : Mtr
-small_commit = record { node = 1; llsn = 7; records = commit_records (small_trx 0) 5 }
+abbrev pub first_commit_mtr : Mtr
+first_commit_mtr = record { node = 1; llsn = 7; records = commit_records (small_trx 0) 5 }

@@ -27,12 +27,12 @@ abbrev pub MayAllCome : List CoreEvent → Type 0
 MayAllCome events = AllowedFrom (core three_pages) (core_start three_pages) events
 
 -- node 1 comes to write a page that nobody holds, and is given it
-abbrev pub takes_page_one : ℕ → List CoreEvent
-takes_page_one k = Pages (LockWord 1 k 0 256) ∷ Pages (TakeFrame 1 k) ∷ Pages (GiveFrame 1 k (fresh_map k)) ∷ []
+abbrev pub comes_to_write : ℕ → List CoreEvent
+comes_to_write k = Pages (LockWord 1 k 0 256) ∷ Pages (TakeFrame 1 k) ∷ Pages (GiveFrame 1 k (fresh_map k)) ∷ []
 
 -- its first transaction begins and puts a row
 abbrev pub puts_row : List CoreEvent
-puts_row = Trx (StoreActive 1 (small_trx 0)) ∷ takes_page_one 0 ++ takes_page_one 1 ++ takes_page_one 2 ++ Pages (StoreLlsn 1 small_put) ∷ []
+puts_row = Trx (StoreActive 1 (small_trx 0)) ∷ comes_to_write 0 ++ comes_to_write 1 ++ comes_to_write 2 ++ Pages (StoreLlsn 1 small_put) ∷ []
 
 -- and puts the former row back, and is over
 abbrev pub puts_back : List CoreEvent

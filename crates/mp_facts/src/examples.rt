@@ -7,7 +7,7 @@ ghost use Rattle.mp_histories.specs.Histories.{live_on};
 ghost use Rattle.mp_histories.specs.SmallHistory.{small_trx, small_row, small_put, small_restore, wrong_restore};
 ghost use Rattle.mp_core.specs.OwnMtrs.{owner_of, first_former};
 ghost use Rattle.mp_core.specs.MtrKinds.{MayPutOver, MayPut, MayRestore, MayRecordCommit};
-ghost use Rattle.mp_facts.specs.SmallParts.{active_part, put_part, restored_part, drawn_part, seeing_part, slot_one_row, put_over_slot_one, small_commit};
+ghost use Rattle.mp_facts.specs.SmallParts.{active_part, put_part, restored_part, drawn_part, seeing_part, slot_one_row, put_over_slot_one, first_commit_mtr};
 ghost use Rattle.mp_facts.specs.Facts.{pages_now};
 ghost use Rattle.mp_facts.specs.SmallRuns.{three_pages, world_after, MayAllCome, puts_row, puts_back, hands_leaf_over};
 
@@ -24,9 +24,9 @@ pub fn law_mtr_kinds_examples()
     ensures restores { MayRestore put_part small_restore }
     ensures no_other_restore { ¬ MayRestore put_part wrong_restore }
     ensures no_second_restore { ¬ MayRestore restored_part small_restore }
-    ensures records { MayRecordCommit (drawn_part put_part) small_commit }
-    ensures no_record_before_the_draw { ¬ MayRecordCommit put_part small_commit }
-    ensures no_record_after_a_restore { ¬ MayRecordCommit (drawn_part restored_part) small_commit }
+    ensures records { MayRecordCommit (drawn_part put_part) first_commit_mtr }
+    ensures no_record_before_the_draw { ¬ MayRecordCommit put_part first_commit_mtr }
+    ensures no_record_after_a_restore { ¬ MayRecordCommit (drawn_part restored_part) first_commit_mtr }
 {}
 
 /// Small runs, and what their worlds have. Each step of a put and of its rollback may come when it does. After the put the

@@ -5,3 +5,4 @@ pub mod Keeping
 pub mod SmallParts
 pub mod Classes
 pub mod Unchanged
+pub mod Media

@@ -1,5 +1,5 @@
 -- A support once had is had after any later step.
-use Rattle.std.proofs.Common.{◌≡◌, ℕ, ◌⊎◌, List, [], Option, None, Some, sym, ◌∙◌, inl, inr, ⊎_elim, arith}
+use Rattle.std.proofs.Common.{◌≡◌, ◌≢◌, ℕ, ◌⊎◌, List, [], Option, None, Some, sym, ◌∙◌, inl, inr, ⊎_elim, arith}
 use Rattle.std.specs.Prelude.{MatchOption}
 use Rattle.std.specs.List.{AllByRecursion}
 use Rattle.mp_script.proofs.Lists.{all_map}
@@ -91,7 +91,7 @@ module _ (p q : CorePart) (e : CoreExtends p q) where
   trx_reply_more work trace line id view CommittedNone h = h
   trx_reply_more work trace line id view (Unknown cts) h = (h.0, h.1, h.2, records_more id view cts h.0 h.3)
   trx_reply_more work trace line id view RolledBack h = h
-  trx_reply_more work trace line id view (Conflict verb cts) h = (h.0, h.1, h.2, blocked_more id h.0 h.1 _ h.3, h.4, h.5)
+  trx_reply_more work trace line id view (Conflict verb cts) h = (h.0, h.1, h.2, blocked_more id h.0 h.1 _ h.3, h.4, h.5, h.6)
   trx_reply_more work trace line id view (Held verb name) h = (h.0, h.1, h.2, held_more id h.0 h.1 h.3, h.4, h.5, h.6)
   trx_reply_more work trace line id view (Full verb) h = (h.0, h.1, room_more h.2, h.3)
   trx_reply_more work trace line id view Skipped h = h
@@ -115,7 +115,10 @@ module _ (p q : CorePart) (e : CoreExtends p q) where
   reply_more work down after trace line (Wrote verb) goes h = in_trx work trace line (Wrote verb) h
   reply_more work down after trace line (Committed cts) goes h = in_trx work trace line (Committed cts) h
   reply_more work down after trace line CommittedNone goes h = h
-  reply_more work down after trace line (Unknown cts) goes h = in_trx work trace line (Unknown cts) h
+  reply_more work down after trace line (Unknown cts) goes h =
+      let same : after ≡ (h.0).node = ⊎_elim (λ up. absurd (h.5 up)) (λ stays. sym stays ∙ h.4) goes in
+      let down_still : after ≢ 0 = λ none. absurd (h.5 (h.4 ∙ sym same ∙ none)) in
+      (h.0, h.1, trx_more work line h.0 h.1 h.2, trx_reply_more work trace line h.0 h.1 (Unknown cts) h.3, same, down_still)
   reply_more work down after trace line RolledBack goes h = h
   reply_more work down after trace line (Conflict verb cts) goes h = in_trx work trace line (Conflict verb cts) h
   reply_more work down after trace line (Held verb name) goes h = in_trx work trace line (Held verb name) h

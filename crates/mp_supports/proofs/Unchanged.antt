@@ -97,7 +97,7 @@ told_more [] given = omega arith
 told_more (g ∷ more) given = let rest = told_more more given in omega (arith, rest)
 
 module _ (p q : CorePart) (e : CoreExtends p q) where
-  same_last : q.pages.made ≡ p.pages.made → last_made_llsn q ≡ last_made_llsn p
+  pub same_last : q.pages.made ≡ p.pages.made → last_made_llsn q ≡ last_made_llsn p
   same_last made = ap (λ (l : List (Placed Mtr)). last_llsn page_ops q.trx.opening.base.llsn l) made ∙ ap (λ (o : TrxOpening). last_llsn page_ops o.base.llsn p.pages.made) e.trx.same_opening
 
   pub mirrors_kept : (down llsn : ℕ) (undo : Option ℕ) → q.pages.made ≡ p.pages.made → q.pages.locks ≡ p.pages.locks → Mirrors p down llsn undo → Mirrors q down llsn undo

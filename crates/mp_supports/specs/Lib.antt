@@ -5,3 +5,4 @@ pub mod Kept
 pub mod SmallParts
 pub mod Steps
 pub mod Agreement
+pub mod Media

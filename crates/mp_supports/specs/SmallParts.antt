@@ -73,6 +73,14 @@ small_part loaded given made = record {
   ops = 0;
 }
 
+-- the same primary before any step
+abbrev pub part_before_steps : CorePart
+part_before_steps = record {
+  trx = record { opening = record { base = nothing_before; primaries = 2; begins = 3 }; begun = []; rows = []; drew = []; seen = []; loaded = [] };
+  pages = record { made = []; durables = []; locks = []; frames = []; gave = []; contents = []; given = [] };
+  ops = 0;
+}
+
 -- a version of the row of key 5, with the byte 97 or 98 as its value
 abbrev pub version_by : Option TrxId → Option Link → ℕ → Row
 version_by writer link byte = record { key = 5; value = Some (byte ∷ []); writer = writer; link = link }

@@ -134,7 +134,7 @@ SupportsTrxReply work p trace line id view (Committed cts) =
 SupportsTrxReply work p trace line id view (Unknown cts) =
     (m : TrxMtr) × (line.stmt ≡ Commit) × (trace ≡ commit_trace (draw_of id cts) m) × RecordsCommit p id view cts m
 SupportsTrxReply work p trace line id view (Conflict verb cts) =
-    (key : ℕ) × (holder : TrxId) × WritesKey line verb key × IsBlocked p id key holder (shows CommittedTag holder.version cts) × (view < cts) × (trace ≡ no_trace)
+    (key : ℕ) × (holder : TrxId) × WritesKey line verb key × IsBlocked p id key holder (shows CommittedTag holder.version cts) × (view < cts) × (trace ≡ no_trace) × ((name : TrxName) × IsNameOf work line id holder name)
 SupportsTrxReply work p trace line id view (Held verb name) =
     (key : ℕ) × (holder : TrxId) × WritesKey line verb key × IsHeldBy p id key holder × (holder.version < id.version) × IsNameOf work line id holder name × (trace ≡ no_trace)
 SupportsTrxReply work p trace line id view (Full verb) =
@@ -153,6 +153,8 @@ SupportsReply work p down trace line (Began view) =
 SupportsReply work p down trace line CommittedNone = (line.stmt ≡ Commit) × (trace ≡ no_trace)
 SupportsReply work p down trace line RolledBack = (line.stmt ≡ Rollback) × (trace ≡ no_trace)
 SupportsReply work p down trace line Skipped = (line.stmt ≢ Begin) × (trace ≡ no_trace)
+SupportsReply work p down trace line (Unknown cts) =
+    (id : TrxId) × (view : ℕ) × IsTrxOf work p line id view × SupportsTrxReply work p trace line id view (Unknown cts) × (down ≡ id.node) × (down ≢ 0)
 SupportsReply work p down trace line (Stopped by) = (down ≡ by) × (by ≢ 0) × StoppedWith work p trace line
 SupportsReply work p down trace line reply = (id : TrxId) × (view : ℕ) × IsTrxOf work p line id view × SupportsTrxReply work p trace line id view reply
 

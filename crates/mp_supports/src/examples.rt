@@ -1,6 +1,6 @@
 //! Small examples of supports, as the contracts of functions that do nothing.
 
-ghost use Rattle.std.specs.Prelude.{ℕ, [], ◌∷◌, None, Some, replicate};
+ghost use Rattle.std.specs.Prelude.{ℕ, true, ◌≡◌, [], ◌∷◌, None, Some, replicate};
 ghost use Rattle.mp_model.specs.declared.replies.Reply.{Reply};
 ghost use Rattle.mp_model.specs.declared.replies.WriteVerb.{WriteVerb};
 ghost use Rattle.mp_script.specs.declared.statements.Stmt.{Stmt};
@@ -8,8 +8,12 @@ ghost use Rattle.mp_core_trx.specs.declared.slot.SlotTag.{SlotTag};
 ghost use Rattle.mp_core_trx.specs.Words.{shows};
 ghost use Rattle.mp_core_trx.specs.Parts.{begun_of, draw_of};
 ghost use Rattle.mp_supports.specs.Supports.{no_trace, looked_trace, began_trace, wrote_trace, commit_trace, Supports, SupportsWaits};
+ghost use Rattle.mp_core.specs.CoreExtends.{CoreExtends};
 ghost use Rattle.mp_supports.specs.Agreement.{Opens, Mirrors, Bounds};
-ghost use Rattle.mp_supports.specs.SmallParts.{older_trx, own_trx, younger_trx, line_of, work_with, answered_with, small_part, version_by, only_leaf, first_link, only_undo, only_meta, load_showing, open_part, open_session, put_over, commit_mtr, made_at_four, own_mtr, older_name, younger_name};
+ghost use Rattle.mp_supports.specs.Kept.{Kept, Did, MayBeKept};
+ghost use Rattle.mp_supports.specs.Steps.{OnlyLooked};
+ghost use Rattle.mp_supports.specs.Media.{OnDisk};
+ghost use Rattle.mp_supports.specs.SmallParts.{older_trx, own_trx, younger_trx, line_of, work_with, answered_with, small_part, part_before_steps, version_by, only_leaf, first_link, only_undo, only_meta, load_showing, open_part, open_session, put_over, commit_mtr, made_at_four, own_mtr, older_name, younger_name};
 
 /// A `begin` is answered with the view with which its transaction was begun, and with no other.
 pub fn law_supports_begin_examples()
@@ -42,15 +46,24 @@ pub fn law_supports_put_examples()
     ensures not_over_an_open_one { ¬ Supports (work_with (Stmt.Put 5 (98 ∷ []))) (small_part (load_showing younger_trx (shows SlotTag.Active 3 0) ∷ []) [] (made_at_four (put_over (version_by (Some younger_trx) None 97) (version_by (Some own_trx) (Some first_link) 98)))) 0 (answered_with (Reply.Wrote WriteVerb.Put)) (wrote_trace [] (own_mtr (put_over (version_by (Some younger_trx) None 97) (version_by (Some own_trx) (Some first_link) 98)))) }
 {}
 
-/// A `commit` is answered with the timestamp that was drawn once its record is durable, and not before.
+/// A `commit` is answered with the timestamp that was drawn once its record is durable, and not before. Its end is
+/// unknown only where its primary is down. One without a timestamp answers a `commit`, and a `rollback` is answered as one.
 pub fn law_supports_commit_examples()
     ensures durable { Supports (work_with Stmt.Commit) (small_part [] [] (made_at_four (commit_mtr 1))) 0 (answered_with (Reply.Committed 5)) (commit_trace (draw_of own_trx 5) (own_mtr (commit_mtr 1))) }
     ensures not_durable { ¬ Supports (work_with Stmt.Commit) (small_part [] [] (made_at_four (commit_mtr 2))) 0 (answered_with (Reply.Committed 5)) (commit_trace (draw_of own_trx 5) (own_mtr (commit_mtr 2))) }
+    ensures unknown { Supports (work_with Stmt.Commit) (small_part [] [] (made_at_four (commit_mtr 2))) 1 (answered_with (Reply.Unknown 5)) (commit_trace (draw_of own_trx 5) (own_mtr (commit_mtr 2))) }
+    ensures not_unknown_while_up { ¬ Supports (work_with Stmt.Commit) (small_part [] [] (made_at_four (commit_mtr 2))) 0 (answered_with (Reply.Unknown 5)) (commit_trace (draw_of own_trx 5) (own_mtr (commit_mtr 2))) }
+    ensures none { Supports (work_with Stmt.Commit) (small_part [] [] []) 0 (answered_with Reply.CommittedNone) no_trace }
+    ensures none_only_of_a_commit { ¬ Supports (work_with Stmt.Rollback) (small_part [] [] []) 0 (answered_with Reply.CommittedNone) no_trace }
+    ensures rolled_back { Supports (work_with Stmt.Rollback) (small_part [] [] []) 0 (answered_with Reply.RolledBack) no_trace }
+    ensures no_commit_rolled_back { ¬ Supports (work_with Stmt.Commit) (small_part [] [] []) 0 (answered_with Reply.RolledBack) no_trace }
 {}
 
-/// A write is refused `held` for an older transaction, not for a younger one, and `full` where fewer than five pages are
+/// A write is refused `conflict` for a commit above its view, not for one within it. It is refused `held` for an older transaction, not for a younger one, and `full` where fewer than five pages are
 /// clear, not where more are.
 pub fn law_supports_refusal_examples()
+    ensures conflict { Supports (work_with (Stmt.Del 5)) (small_part (load_showing older_trx (shows SlotTag.Committed 1 7) ∷ []) (only_leaf (version_by (Some older_trx) None 97) ∷ []) []) 0 (answered_with (Reply.Conflict WriteVerb.Del 7)) no_trace }
+    ensures no_conflict_within_the_view { ¬ Supports (work_with (Stmt.Del 5)) (small_part (load_showing older_trx (shows SlotTag.Committed 1 2) ∷ []) (only_leaf (version_by (Some older_trx) None 97) ∷ []) []) 0 (answered_with (Reply.Conflict WriteVerb.Del 2)) no_trace }
     ensures held { Supports (work_with (Stmt.Del 5)) (small_part (load_showing older_trx (shows SlotTag.Active 1 0) ∷ []) (only_leaf (version_by (Some older_trx) None 97) ∷ []) []) 0 (answered_with (Reply.Held WriteVerb.Del older_name)) no_trace }
     ensures not_held_by_a_younger_one { ¬ Supports (work_with (Stmt.Del 5)) (small_part (load_showing younger_trx (shows SlotTag.Active 3 0) ∷ []) (only_leaf (version_by (Some younger_trx) None 97) ∷ []) []) 0 (answered_with (Reply.Held WriteVerb.Del younger_name)) no_trace }
     ensures full { Supports (work_with (Stmt.Del 5)) (small_part [] (only_meta (replicate 512 255) ∷ []) []) 0 (answered_with (Reply.Full WriteVerb.Del)) no_trace }
@@ -80,4 +93,25 @@ pub fn law_agreement_examples()
     ensures not_above_all_told { ¬ Mirrors open_part 0 7 None }
     ensures bounds { Bounds (work_with Stmt.Commit) open_part [] (open_session ∷ []) }
     ensures not_two_mtrs { ¬ Bounds (work_with Stmt.Commit) (small_part [] [] (record { at = 5; mtr = commit_mtr 2 } ∷ made_at_four (commit_mtr 1))) [] [] }
+{}
+
+/// An empty log holds what a part without mtrs made, and not what one made whose log is durable up to its mtr.
+pub fn law_media_examples()
+    ensures nothing_made { OnDisk (work_with Stmt.Commit) (small_part [] [] []) 0 record { node = 1; place = 0; last = 0; live = true; bytes = [] } true true (0 ∷ []) (λ c. c ≡ 0 ∷ []) }
+    ensures not_without_its_mtr { ¬ OnDisk (work_with Stmt.Commit) (small_part [] [] (made_at_four (commit_mtr 1))) 0 record { node = 1; place = 0; last = 1; live = true; bytes = [] } true true (0 ∷ []) (λ c. c ≡ 0 ∷ []) }
+{}
+
+/// What a primary keeps before any step is no entry; a begin that no entry has isn't kept so. A turn without a step left
+/// nothing, and no begin. A part doesn't come to know less.
+pub fn law_entries_examples()
+    ensures nothing_kept { Kept (work_with Stmt.Commit) part_before_steps 0 [] }
+    ensures not_without_its_begin { ¬ Kept (work_with Stmt.Commit) (small_part [] [] []) 0 [] }
+    ensures did_nothing { Did part_before_steps part_before_steps no_trace }
+    ensures did_not_begin { ¬ Did part_before_steps part_before_steps (began_trace (begun_of own_trx 3)) }
+    ensures may_be_kept { MayBeKept (work_with Stmt.Commit) part_before_steps 0 record { answer = None; trace = no_trace } }
+    ensures no_stop_while_up { ¬ MayBeKept (work_with Stmt.Commit) part_before_steps 0 record { answer = Some (answered_with (Reply.Stopped 2)); trace = no_trace } }
+    ensures stays { CoreExtends part_before_steps part_before_steps }
+    ensures forgets_nothing { ¬ CoreExtends (small_part [] [] []) part_before_steps }
+    ensures looked { OnlyLooked part_before_steps part_before_steps }
+    ensures not_looked { ¬ OnlyLooked part_before_steps (small_part [] [] []) }
 {}

@@ -1,5 +1,5 @@
 //! The laws, as the contracts of functions that do nothing.
-ghost use Rattle.std.specs.Prelude.{ℕ, List, [], ◌∷◌, ◌++◌, ◌≡◌, ◌<◌, ◌⊎◌, Option, None, Some};
+ghost use Rattle.std.specs.Prelude.{ℕ, Bool, true, false, List, [], ◌∷◌, ◌++◌, length, ◌≡◌, ◌<◌, ◌≤◌, ◌+◌, ◌*◌, ◌^◌, ◌⊎◌, Option, None, Some};
 ghost use Rattle.std.specs.List.{AllByRecursion};
 ghost use Rattle.mp_machine.specs.Lists.{IsIn};
 ghost use Rattle.mp_model.specs.declared.ids.TrxId.{TrxId};
@@ -15,7 +15,7 @@ ghost use Rattle.mp_core_trx.specs.declared.part.Draw.{Draw};
 ghost use Rattle.mp_core_pages.specs.declared.part.GivenPage.{GivenPage};
 ghost use Rattle.mp_core_pages.specs.declared.part.Placed.{Placed};
 ghost use Rattle.mp_core.specs.declared.part.CorePart.{CorePart};
-ghost use Rattle.mp_core.specs.CoreExtends.{CoreExtends};
+ghost use Rattle.mp_core.specs.CoreExtends.{durable_of, CoreExtends};
 ghost use Rattle.mp_core.specs.OwnMtrs.{row_put_by, row_restored_by, TrxMtr};
 ghost use Rattle.mp_book.specs.declared.session.Session.{Session};
 ghost use Rattle.mp_supports.specs.Work.{Work};
@@ -23,7 +23,11 @@ ghost use Rattle.mp_supports.specs.Seeing.{Sees};
 ghost use Rattle.mp_supports.specs.Supports.{Trace, no_trace, began_trace, wrote_trace, commit_trace, SupportsReply, SupportsWaits, Supports};
 ghost use Rattle.mp_supports.specs.Kept.{Entry, IsTraced, Kept, Did, GoesDownOnce, MayBeKept};
 ghost use Rattle.mp_supports.specs.Steps.{OnlyLooked, MadeOne, Forced, TrxStep, trx_mtr_of, drew_trace};
-ghost use Rattle.mp_supports.specs.Agreement.{Opens, Mirrors, Bounds};
+ghost use Rattle.mp_log.specs.Tails.{TailView, LogStands};
+ghost use Rattle.mp_supports.specs.Agreement.{last_made_llsn, Opens, Mirrors, Bounds};
+ghost use Rattle.mp_supports.specs.Media.{mtrs_in_order, above_base, OnDisk};
+
+use mp_outside::Disk;
 
 /// Steps lead from a part to itself, and where they lead on they lead from the first to the last.
 pub fn law_extends()
@@ -77,4 +81,16 @@ pub fn law_steps_keep()
     ensures bounds_looked { (work : Work) (p q : CorePart) (answers : List Answer) (sessions : List Session) → OnlyLooked p q → Bounds work p answers sessions → Bounds work q answers sessions }
     ensures bounds_forced { (work : Work) (p q : CorePart) (llsn : ℕ) (answers : List Answer) (sessions : List Session) → Forced llsn p q → Bounds work p answers sessions → Bounds work q answers sessions }
     ensures bounds_trx { (work : Work) (p q : CorePart) (answers : List Answer) (sessions : List Session) → TrxStep p q → Bounds work p answers sessions → Bounds work q answers sessions }
+{}
+
+/// What the media hold stays where a step only looks, or is one of transactions. An mtr that was made must be appended, and
+/// be above what is durable; a force must have left all mtrs in the log's batches.
+pub fn law_steps_keep_media<D: Disk>()
+    ensures looked { (work : Work) (p q : CorePart) (down : ℕ) (tail : TailView) (unforced : Bool) (disk : D) → OnlyLooked p q → OnDisk work p down tail unforced (D.tells disk) (D.seen disk) (D.image disk) → OnDisk work q down tail unforced (D.tells disk) (D.seen disk) (D.image disk) }
+    ensures trx { (work : Work) (p q : CorePart) (down : ℕ) (tail : TailView) (unforced : Bool) (disk : D) → TrxStep p q → OnDisk work p down tail unforced (D.tells disk) (D.seen disk) (D.image disk) → OnDisk work q down tail unforced (D.tells disk) (D.seen disk) (D.image disk) }
+    ensures made { (work : Work) (p q : CorePart) (down : ℕ) (x : Placed Mtr) (old tail : TailView) (unforced : Bool) (disk : D) → MadeOne x p q → durable_of q < x.mtr.llsn → OnDisk work p down old unforced (D.tells disk) (D.seen disk) (D.image disk)
+        → (tail.live ≡ true → D.tells disk ≡ true → (batches : List (List Mtr)) × (pending : List Mtr) × LogStands batches (pending ++ x.mtr ∷ []) tail (D.seen disk) (D.image disk) × (mtrs_in_order p ≡ above_base work batches ++ pending))
+        → tail.last ≡ x.mtr.llsn → tail.place ≡ old.place → tail.live ≡ old.live → OnDisk work q down tail true (D.tells disk) (D.seen disk) (D.image disk) }
+    ensures forced { (work : Work) (p q : CorePart) (down : ℕ) (tail : TailView) (batches : List (List Mtr)) (disk : D) → Forced (last_made_llsn p) p q → LogStands batches [] tail (D.seen disk) (D.image disk) → mtrs_in_order p ≡ above_base work batches
+        → tail.live ≡ true → (0 < length p.pages.made → tail.last ≡ last_made_llsn p) → tail.place ≤ 2 ^ 62 + 21000 * length p.pages.made → OnDisk work q down tail false (D.tells disk) (D.seen disk) (D.image disk) }
 {}

@@ -8,9 +8,45 @@ use Rattle.mp_model.specs.declared.ids.TrxId.{TrxId}
 use Rattle.mp_script.specs.declared.statements.Stmt.TheVariants.{Del}
 use Rattle.mp_model.specs.declared.replies.WriteVerb.TheVariants.{Del as Delete}
 use Rattle.mp_supports.specs.Supports.{IsHeldBy}
-use Rattle.mp_supports.specs.SmallParts.{own_trx, older_trx, younger_trx, line_of, version_by, only_leaf, only_meta, load_showing}
+use Rattle.mp_supports.specs.SmallParts.{own_trx, older_trx, older_name, younger_trx, line_of, version_by, only_leaf, only_meta, load_showing}
 use Rattle.mp_supports.proofs.SmallParts.{only_one, id_is, view_is, others_older, holder_is, key_written}
 use Rattle.mp_supports.proofs.examples.law_supports_refusal_examples.Goals as goal
+
+pub returns-clause-conflict : goal.returns-clause-conflict
+returns-clause-conflict c = record {
+  line = line_of 1 2 (Del 5);
+  found = refl;
+  reply = (
+    own_trx,
+    3,
+    record { begun = inl refl; named = refl },
+    (
+      5,
+      older_trx,
+      refl,
+      record {
+        leaf = only_leaf (version_by (Some older_trx) None 97);
+        newest = version_by (Some older_trx) None 97;
+        its_newest = record { given = inl refl; its_leaf = record { kind = refl; from = lit≤ tt; until = lit< tt }; newest_is = refl };
+        writer = refl;
+        other = others_older;
+        load = load_showing older_trx (shows Committed 1 7);
+        is_load = record { loaded = inl refl; of = refl; slot = refl };
+        shown = refl;
+      },
+      lit< tt,
+      refl,
+      (older_name, record { named = refl; apart = λ same. absurd (let two : 2 ≡ 1 = same in omega (arith, two)) }),
+    ),
+  );
+  waits = (tt, tt);
+}
+
+pub returns-clause-no_conflict_within_the_view : goal.returns-clause-no_conflict_within_the_view
+returns-clause-no_conflict_within_the_view c = λ s.
+    let view : s.reply.1 ≡ 3 = view_is (Del 5) (load_showing older_trx (shows Committed 1 2) ∷ []) (only_leaf (version_by (Some older_trx) None 97) ∷ []) [] s.line s.reply.0 s.reply.1 s.reply.2 in
+    let above : s.reply.1 < 2 = s.reply.3.4 in
+    omega (arith, view, above)
 
 pub returns-clause-held : goal.returns-clause-held
 returns-clause-held c = record {
