@@ -1,5 +1,5 @@
 -- A write that was held, that waited, or that met a commit: the other transaction has written the key.
-use Rattle.std.proofs.Common.{◌≡◌, ◌≢◌, ◌⊎◌, ℕ, suc, zero, ◌+◌, ◌<◌, ◌≤◌, ◌==◌, ◌||◌, Bool, true, false, cond, List, [], ◌∷◌, ◌++◌, length, slice_get, Option, Some, None, is_some, refl, sym, ap, subst, ◌∙◌, inl, inr, arith, eq-eqb}
+use Rattle.std.proofs.Common.{◌≡◌, ◌≢◌, ℕ, ◌<◌, ◌≤◌, ◌==◌, Bool, true, false, cond, List, [], ◌∷◌, slice_get, Option, Some, None, refl, sym, ap, subst, ◌∙◌, inl, inr, arith, eq-eqb}
 use mathlib.Core.Bool.{false≢true}
 use Rattle.std.specs.Prelude.{MatchOption}
 use Rattle.std.specs.Option.{option_map}
@@ -11,15 +11,13 @@ use Rattle.mp_model.specs.declared.ids.TrxId.{TrxId}
 use Rattle.mp_model.specs.declared.ids.TrxName.{TrxName}
 use Rattle.mp_model.specs.declared.replies.Answer.{Answer}
 use Rattle.mp_model.specs.declared.replies.Reply.{Reply}
-use Rattle.mp_model.specs.declared.replies.Reply.TheVariants.{Wrote, Held, Stopped}
+use Rattle.mp_model.specs.declared.replies.Reply.TheVariants.{Wrote, Held}
 use Rattle.mp_model.specs.declared.replies.WriteVerb.{WriteVerb}
 use Rattle.mp_model.specs.declared.transcripts.Down.{Down}
 use Rattle.mp_script.specs.declared.statements.Line.{Line}
 use Rattle.mp_script.specs.declared.statements.Script.{Script}
-use Rattle.mp_script.specs.declared.statements.SessionOn.{SessionOn}
-use Rattle.mp_script.specs.declared.statements.Stmt.{Stmt}
 use Rattle.mp_script.specs.Execution.{Execution, line_at, stmt_in, stmt_at, answer_at, reply_at}
-use Rattle.mp_script.specs.Right.{WritesKey, BeginsBefore, HasWritten, HeldBy, WaitedFor, AreRightWaits, IsWithoutRepeat, IsRightReply}
+use Rattle.mp_script.specs.Right.{WritesKey, BeginsBefore, HasWritten, WaitedFor, AreRightWaits, IsWithoutRepeat, IsRightReply}
 use Rattle.mp_script.specs.Spelling.{IsSpelled}
 use Rattle.mp_script.specs.Transactions.{Target, target_of, target_key, begins, line_place, trx_in_lines, trx_at, trx_of, is_wrote, wrote_at}
 use Rattle.mp_script.specs.WentDown.{shows_down}
@@ -31,7 +29,7 @@ use Rattle.mp_core_trx.specs.Parts.{begun_of, draw_of}
 use Rattle.mp_core_trx.specs.Events.{IsNode}
 use Rattle.mp_core_trx.specs.World.{begun_in}
 use Rattle.mp_core_pages.specs.declared.part.GivenPage.{GivenPage}
-use Rattle.mp_histories.specs.Histories.{History, older, Version, live_on, rows_of_versions, entry_at}
+use Rattle.mp_histories.specs.Histories.{older, Version, rows_of_versions, entry_at}
 use Rattle.mp_histories.specs.Chains.{row_over, row_of_key, IsPutAt}
 use Rattle.mp_histories.proofs.Writers.{decided}
 use Rattle.mp_histories.proofs.CleanRows.{clean_plain}
@@ -41,27 +39,27 @@ use Rattle.mp_core.specs.declared.opening.CoreOpening.{CoreOpening}
 use Rattle.mp_core.specs.CoreExtends.{durable_of}
 use Rattle.mp_core.specs.World.{CoreWorld, core_part}
 use Rattle.mp_core.specs.OwnMtrs.{row_put_by, commit_by_mtr, TrxMtr}
-use Rattle.mp_facts.specs.Facts.{opening_pages, live_at_height, made_in}
+use Rattle.mp_facts.specs.Facts.{opening_pages, live_at_height}
 use Rattle.mp_supports.specs.Work.{Work, name_of}
 use Rattle.mp_supports.specs.Seeing.{ShowsNewest}
 use Rattle.mp_supports.specs.Supports.{IsTrxOf, IsBlocked, IsHeldBy, IsNameOf, IsWaitFor, SupportsWaits, SupportsTrxReply, SupportsReply}
-use Rattle.mp_supports.specs.Kept.{Entry, answers_in}
-use Rattle.mp_verdict.specs.Finished.{is_session_on, answered_so_far, names_of_reply, names_of, NamesWriters, Finished}
+use Rattle.mp_supports.specs.Kept.{Entry}
+use Rattle.mp_verdict.specs.Finished.{is_session_on, answered_so_far, names_of_reply, names_of, Finished}
 use Rattle.mp_verdict.specs.Told.{IsToldBy}
 use Rattle.mp_verdict.specs.Reads.{PutOf}
 use Rattle.mp_verdict.proofs.Options.{some_is, not_some}
 use Rattle.mp_verdict.proofs.Ordered.{all_in, in_left, in_right}
-use Rattle.mp_verdict.proofs.PlacesOf.{put_of, in_its_node, of_its_node}
+use Rattle.mp_verdict.proofs.PlacesOf.{put_of, in_its_node}
 use Rattle.mp_verdict.proofs.Covering.{entry_stays}
 use Rattle.mp_verdict.proofs.ShownChains.{runs_at, chain_at, newest_row}
 use Rattle.mp_verdict.proofs.ScriptLines.{line_is}
 use Rattle.mp_verdict.proofs.BeginPlaces.{older_above, named_begins}
 use Rattle.mp_verdict.proofs.WhichTraces.{which_mtr, which_begin, IsPutBy}
-use Rattle.mp_verdict.proofs.KeptOrder.{answer_of, doubt_of, entry_of_mtr, entry_of_begin, session_here}
+use Rattle.mp_verdict.proofs.KeptOrder.{answer_of, doubt_of, entry_of_mtr, entry_of_begin}
 use Rattle.mp_verdict.proofs.ToldAnswers.{answer_is, target_same, rise, IsKeptBy, on_node, one_node, supported, kept_answer, in_run, answer_here, wrote_there}
 use Rattle.mp_verdict.proofs.Telling.{durable_is, node_of_mtr}
 use Rattle.mp_verdict.proofs.CommitEntries.{name_by}
-use Rattle.mp_verdict.proofs.SoFar.{IsPlacedIn, place_of, over_in}
+use Rattle.mp_verdict.proofs.SoFar.{place_of, over_in}
 
 module _ (script : Script) (spelled : IsSpelled script) (work : Work) (opening : Opening) (o : CoreOpening) (w : CoreWorld) (down : ℕ → ℕ) (entries : ℕ → List Entry) (downs : List Down)
     (f : Finished work script opening o w down entries downs) (run : Execution) (told : IsToldBy work opening o entries downs run) where

@@ -1,5 +1,5 @@
 -- The entries of commits and of ok writes: each has its mtr, over what its transaction may replace.
-use Rattle.std.proofs.Common.{◌≡◌, ◌≢◌, ◌⊎◌, ℕ, suc, zero, ◌+◌, ◌<◌, ◌≤◌, ◌||◌, Bool, true, false, List, [], ◌∷◌, length, Option, Some, None, is_some, refl, sym, ap, subst, ◌∙◌, inl, inr, arith}
+use Rattle.std.proofs.Common.{◌≡◌, ◌⊎◌, ℕ, suc, zero, ◌+◌, ◌<◌, ◌≤◌, ◌||◌, Bool, true, false, List, Option, Some, None, is_some, refl, sym, ap, subst, ◌∙◌, inl, inr, arith}
 use mathlib.Core.Bool.{false≢true}
 use Rattle.std.proofs.lemmas.Bool.{eqb-true}
 use Rattle.mp_machine.specs.Lists.{IsIn}
@@ -15,7 +15,7 @@ use Rattle.mp_script.specs.declared.statements.Line.{Line}
 use Rattle.mp_script.specs.declared.statements.Script.{Script}
 use Rattle.mp_script.specs.Execution.{Execution, line_at}
 use Rattle.mp_script.specs.Spelling.{IsSpelled}
-use Rattle.mp_script.specs.Transactions.{trx_in_lines, trx_of, view_of, view_at, statements_before, target_key, cts_of, is_number, wrote_at, wrote_among, wrote_before}
+use Rattle.mp_script.specs.Transactions.{trx_in_lines, trx_of, view_at, statements_before, target_key, cts_of, is_number, wrote_at, wrote_among, wrote_before}
 use Rattle.mp_script.specs.WentDown.{is_stopped}
 use Rattle.mp_cells.specs.declared.rows.Row.{Row}
 use Rattle.mp_core_trx.specs.declared.part.Begun.{Begun}
@@ -25,13 +25,12 @@ use Rattle.mp_core_trx.specs.World.{begun_in}
 use Rattle.mp_histories.proofs.Writers.{decided}
 use Rattle.mp_core.specs.declared.opening.CoreOpening.{CoreOpening}
 use Rattle.mp_core.specs.World.{CoreWorld, core_part}
-use Rattle.mp_core.specs.OwnMtrs.{row_put_by, row_kept_by, row_restored_by, commit_by_mtr, TrxMtr}
+use Rattle.mp_core.specs.OwnMtrs.{row_kept_by, row_restored_by, commit_by_mtr, TrxMtr}
 use Rattle.mp_supports.specs.Seeing.{IsSettledFor}
 use Rattle.mp_facts.specs.Facts.{made_in}
 use Rattle.mp_supports.specs.Work.{Work, name_of}
-use Rattle.mp_supports.specs.Supports.{Trace, commit_trace, IsTrxOf, Overwrites, RecordsCommit, SupportsReply}
+use Rattle.mp_supports.specs.Supports.{Trace, IsTrxOf, Overwrites, RecordsCommit, SupportsReply}
 use Rattle.mp_supports.specs.Kept.{Entry}
-use Rattle.mp_verdict.specs.Standing.{StandsAbove}
 use Rattle.mp_verdict.specs.Finished.{Finished}
 use Rattle.mp_verdict.specs.Told.{IsToldBy}
 use Rattle.mp_verdict.specs.Reads.{PutOf}

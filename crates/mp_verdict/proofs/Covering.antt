@@ -1,5 +1,5 @@
 -- Who puts a row above another transaction's has that one's commit in its view, and below its put.
-use Rattle.std.proofs.Common.{◌≡◌, ◌≢◌, ◌⊎◌, ℕ, ◌<◌, ◌≤◌, ◌==◌, Bool, true, false, cond, List, [], ◌∷◌, ◌++◌, length, Option, Some, None, is_some, refl, sym, ap, subst, ◌∙◌, inl, inr, arith, append_assoc, slice_get, ne_eqb, ◌+◌}
+use Rattle.std.proofs.Common.{◌≡◌, ◌≢◌, ℕ, ◌<◌, ◌≤◌, ◌==◌, Bool, true, cond, List, [], ◌∷◌, ◌++◌, length, Option, Some, None, is_some, refl, sym, ap, subst, ◌∙◌, inl, inr, arith, append_assoc, slice_get, ne_eqb, ◌+◌}
 use mathlib.Core.Bool.{false≢true}
 use Rattle.std.specs.List.{AllByRecursion}
 use Rattle.std.proofs.lemmas.Bool.{eqb-true}
@@ -8,16 +8,14 @@ use Rattle.mp_machine.specs.Lists.{IsIn}
 use Rattle.mp_model.specs.declared.ids.TrxId.{TrxId}
 use Rattle.mp_cells.specs.declared.records.Mtr.{Mtr}
 use Rattle.mp_cells.specs.declared.rows.Row.{Row}
-use Rattle.mp_cells.specs.Plans.{plan_of}
-use Rattle.mp_cells.specs.Writes.{undo_at, rows_put}
-use Rattle.mp_core_trx.specs.declared.part.Draw.{Draw}
+use Rattle.mp_cells.specs.Writes.{undo_at}
 use Rattle.mp_core_trx.specs.Parts.{draw_of}
 use Rattle.mp_core_trx.specs.World.{drawn_in}
-use Rattle.mp_histories.specs.KeyOps.{KeyOp, put, same_writer, live, newest_by, newest_below, kept_version, put_last}
-use Rattle.mp_histories.specs.Commits.{Stamps, AreStamps, PutsFit}
+use Rattle.mp_histories.specs.KeyOps.{put, same_writer, live, newest_by, newest_below, kept_version}
+use Rattle.mp_histories.specs.Commits.{AreStamps, PutsFit}
 use Rattle.mp_histories.specs.Histories.{History, older, entry_at, pages_after, Version, by_version, rows_of_versions, ops_on, live_on}
-use Rattle.mp_histories.specs.Chains.{row_over, LinksTo, IsChain, row_of_key, RunsFrom, IsPutAt}
-use Rattle.mp_histories.proofs.Writers.{decided, same_is, same_from, other_is, other_from}
+use Rattle.mp_histories.specs.Chains.{LinksTo, IsChain, row_of_key, RunsFrom, IsPutAt}
+use Rattle.mp_histories.proofs.Writers.{decided, same_is, other_is, other_from}
 use Rattle.mp_histories.proofs.ChainFacts.{links_one}
 use Rattle.mp_histories.proofs.Cutting.{fits_earlier}
 use Rattle.mp_histories.proofs.Falling.{FallsBelow, FallsUnder, newest_below-same, newest_below-other, live_falls, fit_orderly}
@@ -27,16 +25,15 @@ use Rattle.mp_histories.proofs.Noting.{older_first}
 use Rattle.mp_histories.proofs.LiveRows.{live_put_at}
 use Rattle.mp_core.specs.declared.opening.CoreOpening.{CoreOpening}
 use Rattle.mp_core.specs.Invariant.{NumbersFit}
-use Rattle.mp_core.specs.World.{CoreWorld, core_part}
+use Rattle.mp_core.specs.World.{CoreWorld}
 use Rattle.mp_core.specs.OwnMtrs.{row_put_by, row_kept_by, commit_by_mtr, TrxMtr}
 use Rattle.mp_facts.specs.Facts.{opening_pages, pages_now, pages_at_height, live_at_height, made_in, IsForced, DrewStamp, CommittedStamp, Facts}
-use Rattle.mp_supports.specs.Seeing.{IsSettledFor}
 use Rattle.mp_verdict.specs.Reads.{PutBelow, PutOf}
 use Rattle.mp_verdict.specs.WriteOrder.{PutsOverSettled, IsWholeBelow, CommittedBefore}
 use Rattle.mp_verdict.proofs.Options.{some_is, not_some}
 use Rattle.mp_verdict.proofs.PlacesOf.{DoesPut, does, one_newer, put_of, in_its_node, well_here, older_here, older_with}
 use Rattle.mp_verdict.proofs.LastPuts.{Says, put_last_says, never_back}
-use Rattle.mp_verdict.proofs.OthersFit.{forced_drew, drew_once, forced_once}
+use Rattle.mp_verdict.proofs.OthersFit.{forced_drew, drew_once}
 use Rattle.mp_verdict.proofs.ShownChains.{chain_at, runs_at, committed_below}
 
 -- the history around a place

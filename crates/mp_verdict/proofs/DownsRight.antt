@@ -1,8 +1,8 @@
 -- The `down` lines of a finished run rise and have their causes, and what is down stays down.
-use Rattle.std.proofs.Common.{◌≡◌, ◌≢◌, ◌⊎◌, ℕ, zero, suc, ◌+◌, ◌<◌, ◌≤◌, ◌==◌, ◌&&◌, ◌||◌, Bool, true, false, cond, List, [], ◌∷◌, ◌++◌, Option, Some, None, refl, sym, ap, subst, ◌∙◌, inl, inr, arith, eq-eqb}
+use Rattle.std.proofs.Common.{◌≡◌, ◌≢◌, ℕ, zero, suc, ◌+◌, ◌<◌, ◌≤◌, ◌==◌, ◌&&◌, ◌||◌, Bool, true, false, cond, List, [], ◌∷◌, refl, sym, ap, subst, ◌∙◌, inl, inr, arith, eq-eqb}
 use mathlib.Core.Bool.{false≢true}
 use Rattle.std.specs.List.{list_any, AllByRecursion}
-use Rattle.std.proofs.lemmas.Bool.{eqb-true, and_from, and_parts}
+use Rattle.std.proofs.lemmas.Bool.{and_from, and_parts}
 use Rattle.mp_machine.specs.Lists.{IsIn}
 use Rattle.mp_model.specs.declared.histories.Opening.{Opening}
 use Rattle.mp_model.specs.declared.replies.Answer.{Answer}
@@ -12,7 +12,7 @@ use Rattle.mp_model.specs.declared.transcripts.Transcript.{Transcript}
 use Rattle.mp_script.specs.declared.statements.Script.{Script}
 use Rattle.mp_script.specs.declared.statements.SessionOn.{SessionOn}
 use Rattle.mp_script.specs.Below.{EachBelow}
-use Rattle.mp_script.specs.Execution.{Execution, execution_of, runs_on}
+use Rattle.mp_script.specs.Execution.{Execution, runs_on}
 use Rattle.mp_script.specs.Spelling.{IsSpelled}
 use Rattle.mp_script.specs.WentDown.{DownsRise, HaveTheirCause, same_primary, shows_down, is_stopped, StaysDown}
 use Rattle.mp_histories.proofs.Writers.{decided}
@@ -24,9 +24,9 @@ use Rattle.mp_verdict.specs.Standing.{StandsAbove}
 use Rattle.mp_verdict.specs.Finished.{is_session_on, down_lines, Finished}
 use Rattle.mp_verdict.specs.Orders.{NodeEntry, entries_given, IsMerged, StepOrder, IsStepTranscript, IsRunTranscript}
 use Rattle.mp_verdict.specs.Told.{IsToldBy}
-use Rattle.mp_verdict.proofs.Ordered.{above_in, in_flat, in_found, from_above_found}
+use Rattle.mp_verdict.proofs.Ordered.{above_in, in_flat, from_above_found}
 use Rattle.mp_verdict.proofs.KeptOrder.{stopped_below}
-use Rattle.mp_verdict.proofs.ToldAnswers.{IsKeptBy, one_node, on_node, kept_answer, same_node, one_entry}
+use Rattle.mp_verdict.proofs.ToldAnswers.{IsKeptBy, one_node, on_node, kept_answer, one_entry}
 use Rattle.mp_verdict.proofs.KeyConflicts.{all_of, each_split, over_above, in_over, last_in}
 use Rattle.mp_verdict.proofs.RepliesRight.{line_of_down, any_in}
 use Rattle.mp_verdict.proofs.RunTold.{run_mode, part_node, part_answers, run_told}

@@ -1,22 +1,19 @@
 -- A write that was refused for want of pages: there are more write statements than puts, so they may need more pages than
 -- there are.
-use Rattle.std.proofs.Common.{◌≡◌, ◌≢◌, ◌⊎◌, ℕ, suc, zero, ◌+◌, ◌*◌, ◌<◌, ◌≤◌, if◌then◌else◌, Bool, true, false, cond, List, [], ◌∷◌, ◌++◌, length, filter, Option, Some, None, is_some, refl, sym, ap, subst, ◌∙◌, inl, inr, arith}
+use Rattle.std.proofs.Common.{◌≡◌, ◌≢◌, ℕ, suc, ◌<◌, ◌≤◌, if◌then◌else◌, Bool, true, false, cond, List, [], ◌∷◌, ◌++◌, length, filter, Option, Some, None, is_some, refl, sym, ap, subst, ◌∙◌, inl, inr, arith}
 use mathlib.Core.Bool.{false≢true}
 use Rattle.std.specs.Prelude.{count_by}
 use Rattle.std.proofs.lemmas.List.Sums.{length-filter}
-use Rattle.std.proofs.lemmas.List.{length-append}
 use Rattle.mp_machine.specs.Lists.{IsIn}
 use Rattle.mp_model.specs.declared.histories.Opening.{Opening}
 use Rattle.mp_model.specs.declared.replies.Answer.{Answer}
-use Rattle.mp_model.specs.declared.replies.Reply.{Reply}
 use Rattle.mp_model.specs.declared.replies.Reply.TheVariants.{Full}
 use Rattle.mp_model.specs.declared.replies.WriteVerb.{WriteVerb}
 use Rattle.mp_model.specs.declared.transcripts.Down.{Down}
 use Rattle.mp_script.specs.declared.statements.Line.{Line}
 use Rattle.mp_script.specs.declared.statements.Script.{Script}
-use Rattle.mp_script.specs.declared.statements.Stmt.{Stmt}
 use Rattle.mp_script.specs.Execution.{Execution, line_at}
-use Rattle.mp_script.specs.Right.{WritesKey, MayBeFull}
+use Rattle.mp_script.specs.Right.{MayBeFull}
 use Rattle.mp_script.specs.Spelling.{IsSpelled}
 use Rattle.mp_script.specs.Transactions.{Target, target_of}
 use Rattle.mp_cells.specs.declared.records.Mtr.{Mtr}
@@ -30,12 +27,11 @@ use Rattle.mp_histories.proofs.Noting.{older_first}
 use Rattle.mp_core.specs.declared.opening.CoreOpening.{CoreOpening}
 use Rattle.mp_core.specs.World.{CoreWorld, core_part}
 use Rattle.mp_core.specs.OwnMtrs.{row_put_by, commit_by_mtr, TrxMtr}
-use Rattle.mp_facts.specs.Facts.{opening_pages, pages_at_height, made_in}
+use Rattle.mp_facts.specs.Facts.{opening_pages, pages_at_height}
 use Rattle.mp_supports.specs.Work.{Work}
-use Rattle.mp_supports.specs.Supports.{Trace, no_trace, HasNoRoom, SupportsReply}
+use Rattle.mp_supports.specs.Supports.{Trace, SupportsReply}
 use Rattle.mp_supports.specs.Kept.{Entry}
 use Rattle.mp_verdict.specs.Finished.{Finished}
-use Rattle.mp_verdict.specs.Fullness.{HasRoomAtEach}
 use Rattle.mp_verdict.specs.Told.{IsToldBy}
 use Rattle.mp_verdict.proofs.Options.{some_is, not_some}
 use Rattle.mp_verdict.proofs.Ordered.{Pairwise, in_filter}
@@ -165,8 +161,8 @@ module _ (script : Script) (spelled : IsSpelled script) (work : Work) (opening :
         record { node = n; entry = x.0; answer = a.0; kept = kept; mtr = m; made = x.2; at = made.2; found = s.found },
       )
 
-  pub full_right : HasRoomAtEach o w → (a : Answer) (verb : WriteVerb) → IsIn a run.answers → a.reply ≡ Full verb → MayBeFull run
-  full_right room a verb there reply =
+  pub full_right : (a : Answer) (verb : WriteVerb) → IsIn a run.answers → a.reply ≡ Full verb → MayBeFull run
+  full_right a verb there reply =
       let k = kept_answer script spelled work opening o w down entries downs f run told a there in
       let s = supported script spelled work opening o w down entries downs f run told k.0 k.1 a k.2 in
       let h = subst (SupportsReply work (core_part w k.0) (down k.0) (k.1).trace s.line) reply s.reply in
@@ -174,7 +170,7 @@ module _ (script : Script) (spelled : IsSpelled script) (work : Work) (opening :
       let given = f.facts.of_notes.given k.0 meta h.3.2.given in
       let page : bits_set meta.page.bits ≡ bits_set (pages_at_height o w meta.height 0).bits = ap (λ (y : PageView). bits_set y.bits) given.2 ∙ ap (λ (i : ℕ). bits_set (pages_at_height o w meta.height i).bits) h.3.2.number in
       let few = h.3.2.few in
-      let most = room meta.height in
+      let most = f.facts.of_versions.room meta.height in
       let first : count_by puts_row (older meta.height w.pages.history) ≡ length (put_places (older meta.height w.pages.history)) = sym (places_count (older meta.height w.pages.history) ∙ length-filter puts_row (older meta.height w.pages.history)) in
       let split = older_first meta.height w.pages.history in
       let more : length (put_places (older meta.height w.pages.history)) ≤ length (put_places w.pages.history) = subst (λ (x : History). length (put_places (older meta.height w.pages.history)) ≤ length (put_places x)) (sym split.split_is) (places_more split.newer (older meta.height w.pages.history)) in

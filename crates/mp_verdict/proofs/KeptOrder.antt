@@ -1,9 +1,9 @@
 -- What a primary kept, in its order: each put and commit is in one entry, mtrs and indexes rise down the entries, and what
 -- an entry made lies between what the others read.
-use Rattle.std.proofs.Common.{◌≡◌, ◌≢◌, ◌⊎◌, ℕ, zero, suc, ◌+◌, ◌<◌, ◌≤◌, ◌==◌, Bool, true, false, cond, List, [], ◌∷◌, ◌++◌, length, map, filter, reverse, ◌||◌, Option, Some, None, is_some, is_none, refl, sym, ap, subst, ◌∙◌, inl, inr, arith, eq-eqb}
+use Rattle.std.proofs.Common.{◌≡◌, ℕ, ◌+◌, ◌<◌, ◌≤◌, ◌==◌, Bool, true, false, cond, List, [], ◌∷◌, ◌++◌, length, map, filter, reverse, ◌||◌, Option, Some, None, is_some, is_none, refl, sym, ap, subst, ◌∙◌, inl, inr, arith, eq-eqb}
 use mathlib.Core.Bool.{false≢true}
 use Rattle.std.specs.Option.{IfSome}
-use Rattle.std.specs.List.{filter_map, list_any, AllByRecursion}
+use Rattle.std.specs.List.{list_any, AllByRecursion}
 use Rattle.mp_machine.specs.Lists.{IsIn}
 use Rattle.mp_model.specs.declared.replies.Answer.{Answer}
 use Rattle.mp_script.specs.Below.{EachBelow, answered}
@@ -22,7 +22,6 @@ use Rattle.mp_supports.specs.Supports.{Supports}
 use Rattle.mp_supports.specs.Kept.{Entry, answers_in, lasting, Precedes, IsInDoubt, Kept}
 use Rattle.mp_verdict.specs.Standing.{StandsAbove}
 use Rattle.mp_verdict.specs.Finished.{is_session_on, IsAnsweredNext}
-use Rattle.mp_verdict.proofs.Options.{some_is, not_some}
 use Rattle.mp_verdict.proofs.Ordered.{Pairwise, pair_above, in_left, in_right, in_either, in_reverse, pairwise_reverse, in_filter, pairwise_filter, all_in, in_found, from_found, above_found}
 
 module _ {T : Type 0} where

@@ -1,7 +1,6 @@
 -- Of two commits of a key the first wins; a write sees the commits of its key that were recorded before; and no write of
 -- another transaction comes between a write and its commit.
-use Rattle.std.proofs.Common.{◌≡◌, ◌≢◌, ◌⊎◌, ℕ, suc, ◌<◌, ◌≤◌, ◌==◌, ◌&&◌, Bool, true, false, cond, List, [], ◌∷◌, ◌++◌, Option, Some, None, is_some, refl, sym, ap, subst, ◌∙◌, inl, inr, arith, append_assoc}
-use mathlib.Core.Bool.{false≢true}
+use Rattle.std.proofs.Common.{◌≡◌, ◌≢◌, ◌⊎◌, ℕ, ◌<◌, ◌≤◌, ◌==◌, ◌&&◌, Bool, true, cond, List, [], ◌∷◌, ◌++◌, Option, Some, is_some, refl, sym, ap, subst, ◌∙◌, inl, inr, arith, append_assoc}
 use Rattle.std.specs.List.{AllByRecursion}
 use Rattle.std.proofs.lemmas.Bool.{cases_lt, eqb-true, and_parts}
 use Rattle.mp_machine.specs.Lists.{IsIn}
@@ -15,11 +14,10 @@ use Rattle.mp_model.specs.declared.transcripts.Down.{Down}
 use Rattle.mp_script.specs.declared.statements.Line.{Line}
 use Rattle.mp_script.specs.declared.statements.Script.{Script}
 use Rattle.mp_script.specs.Below.{EachBelow, from_first}
-use Rattle.mp_script.specs.Conflicts.{CommitsKey, AcknowledgesKey, FirstCommitterWins, SeesEarlierCommits, since_first_write, HoldsItsKeys}
+use Rattle.mp_script.specs.Conflicts.{AcknowledgesKey, FirstCommitterWins, SeesEarlierCommits, since_first_write, HoldsItsKeys}
 use Rattle.mp_script.specs.Execution.{Execution, line_at}
 use Rattle.mp_script.specs.Spelling.{IsSpelled}
 use Rattle.mp_script.specs.Transactions.{trx_of, view_at, same_trx, cts_of, acknowledged_cts, is_number, wrote_at}
-use Rattle.mp_cells.specs.declared.records.Mtr.{Mtr}
 use Rattle.mp_cells.specs.declared.rows.Row.{Row}
 use Rattle.mp_core_trx.specs.declared.part.Draw.{Draw}
 use Rattle.mp_core_trx.specs.Parts.{begun_of, draw_of}
@@ -29,7 +27,7 @@ use Rattle.mp_histories.specs.Histories.{entry_at}
 use Rattle.mp_histories.proofs.Writers.{decided, same_is, other_is}
 use Rattle.mp_core.specs.declared.opening.CoreOpening.{CoreOpening}
 use Rattle.mp_core.specs.World.{CoreWorld, core_part}
-use Rattle.mp_core.specs.OwnMtrs.{row_put_by, commit_by_mtr, TrxMtr}
+use Rattle.mp_core.specs.OwnMtrs.{row_put_by, TrxMtr}
 use Rattle.mp_supports.specs.Work.{Work, name_of}
 use Rattle.mp_supports.specs.Supports.{IsTrxOf}
 use Rattle.mp_supports.specs.Kept.{Entry}

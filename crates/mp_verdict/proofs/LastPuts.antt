@@ -1,21 +1,20 @@
 -- What a transaction put last on a key, in the history and among what its node made.
-use Rattle.std.proofs.Common.{◌≡◌, ◌≢◌, ◌⊎◌, ℕ, suc, ◌<◌, ◌≤◌, Bool, true, false, cond, List, [], ◌∷◌, ◌++◌, length, Option, Some, None, refl, sym, ap, subst, ◌∙◌, inl, inr, arith}
-use mathlib.Core.Bool.{false≢true}
+use Rattle.std.proofs.Common.{◌≡◌, ◌≢◌, ℕ, suc, ◌<◌, ◌≤◌, Bool, true, false, cond, List, [], ◌∷◌, ◌++◌, length, Option, Some, None, sym, ap, subst, ◌∙◌, inl, inr, arith}
 use Rattle.std.proofs.lemmas.Bool.{cases_lt}
 use Rattle.mp_machine.specs.Lists.{IsIn}
 use Rattle.mp_model.specs.declared.ids.TrxId.{TrxId}
 use Rattle.mp_cells.specs.declared.records.Mtr.{Mtr}
 use Rattle.mp_cells.specs.declared.rows.Row.{Row}
-use Rattle.mp_histories.specs.KeyOps.{KeyOp, put, restore, same_writer, is_top, live, put_last, NeverBack}
-use Rattle.mp_histories.specs.Histories.{History, older, entry_at, Version, by_version, ops_on, live_on}
+use Rattle.mp_histories.specs.KeyOps.{KeyOp, put, same_writer, is_top, put_last, NeverBack}
+use Rattle.mp_histories.specs.Histories.{History, older, Version, by_version, ops_on, live_on}
 use Rattle.mp_histories.proofs.Writers.{decided, same_is, other_is}
 use Rattle.mp_core.specs.declared.opening.CoreOpening.{CoreOpening}
 use Rattle.mp_core.specs.World.{CoreWorld}
 use Rattle.mp_core.specs.OwnMtrs.{row_put_by, row_restored_by, TrxMtr}
-use Rattle.mp_facts.specs.Facts.{opening_pages, live_at_height, made_in, IsPutOf, Facts}
+use Rattle.mp_facts.specs.Facts.{opening_pages, made_in, Facts}
 use Rattle.mp_verdict.specs.Reads.{PutBelow, LastPutBelow, PutsNothingBelow}
 use Rattle.mp_verdict.proofs.Options.{some_is, not_some}
-use Rattle.mp_verdict.proofs.PlacesOf.{DoesPut, DoesRestore, DoesNothing, does, one_newer, put_of, in_its_node, of_its_node, made_here, maker, well_here, older_here}
+use Rattle.mp_verdict.proofs.PlacesOf.{DoesPut, DoesRestore, DoesNothing, does, one_newer, put_of, in_its_node, made_here, maker, well_here, older_here}
 
 last-same : (u : Option TrxId) (v : Version) (ops : List (KeyOp Version)) → same_writer (by_version v) u ≡ true → put_last by_version u (put v ∷ ops) ≡ Some v
 last-same u v ops e = ap (λ (b : Bool). cond b (Some v) (put_last by_version u ops)) e

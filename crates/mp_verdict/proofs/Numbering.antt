@@ -1,7 +1,6 @@
 -- The numbers of commits are the timestamps that were drawn, each once; and each view lies within them.
-use Rattle.std.proofs.Common.{◌≡◌, ◌≢◌, ◌⊎◌, ℕ, suc, ◌+◌, ◌-◌, ◌<◌, ◌≤◌, Bool, true, false, List, [], ◌∷◌, ◌++◌, length, reverse, Option, Some, None, is_some, refl, sym, ap, subst, ◌∙◌, inl, inr, arith}
+use Rattle.std.proofs.Common.{◌≡◌, ◌≢◌, ℕ, ◌+◌, ◌-◌, ◌<◌, ◌≤◌, List, [], ◌∷◌, ◌++◌, length, Option, Some, None, is_some, refl, sym, ap, subst, ◌∙◌, inl, inr, arith}
 use Rattle.std.specs.Option.{IfSome}
-use Rattle.std.specs.List.{filter_map, AllByRecursion}
 use Rattle.mp_machine.specs.Lists.{IsIn}
 use Rattle.mp_model.specs.declared.histories.Opening.{Opening}
 use Rattle.mp_model.specs.declared.ids.TrxId.{TrxId}
@@ -9,7 +8,6 @@ use Rattle.mp_model.specs.declared.replies.Answer.{Answer}
 use Rattle.mp_model.specs.declared.replies.Reply.{Reply}
 use Rattle.mp_model.specs.declared.replies.Reply.TheVariants.{Began, Got, Scanned, Wrote, Committed, CommittedNone, Unknown, RolledBack, Conflict, Held, Full, Skipped, Stopped}
 use Rattle.mp_model.specs.declared.transcripts.Down.{Down}
-use Rattle.mp_model.specs.declared.transcripts.Mode.{Mode}
 use Rattle.mp_script.specs.declared.statements.Line.{Line}
 use Rattle.mp_script.specs.declared.statements.Script.{Script}
 use Rattle.mp_script.specs.Below.{EachBelow, numbers}
@@ -24,10 +22,9 @@ use Rattle.mp_core_trx.specs.Events.{IsNode}
 use Rattle.mp_core.specs.declared.opening.CoreOpening.{CoreOpening}
 use Rattle.mp_core.specs.World.{CoreWorld, core_part}
 use Rattle.mp_core.specs.declared.part.CorePart.{CorePart}
-use Rattle.mp_core.specs.OwnMtrs.{TrxMtr}
 use Rattle.mp_supports.specs.Work.{Work}
-use Rattle.mp_supports.specs.Supports.{Trace, no_trace, looked_trace, began_trace, wrote_trace, commit_trace, SupportsReply}
-use Rattle.mp_supports.specs.Kept.{Entry, answers_in}
+use Rattle.mp_supports.specs.Supports.{Trace, no_trace, looked_trace, began_trace, wrote_trace, SupportsReply}
+use Rattle.mp_supports.specs.Kept.{Entry}
 use Rattle.mp_verdict.specs.Standing.{StandsAbove}
 use Rattle.mp_verdict.specs.Counting.{CountsCommits, AreApartAnswers}
 use Rattle.mp_verdict.specs.Finished.{Finished}

@@ -5,7 +5,6 @@ use Rattle.std.specs.List.{cons_option}
 use Rattle.std.proofs.lemmas.List.{reverse-append}
 use Rattle.mp_machine.specs.Lists.{IsIn}
 use Rattle.mp_verdict.specs.Standing.{StandsAbove}
-use Rattle.mp_verdict.proofs.Options.{some_is, not_some}
 
 module _ {T : Type 0} where
   -- it holds of each item and each below it

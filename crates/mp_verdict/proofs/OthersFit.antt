@@ -1,24 +1,24 @@
 -- Timestamps of one run: who committed drew, each once; and as long as a reader hasn't committed, no version comes over one
 -- of its own but its own, so that the commits of the others alone say which may cover which.
-use Rattle.std.proofs.Common.{◌≡◌, ◌≢◌, ◌⊎◌, ℕ, suc, ◌<◌, ◌≤◌, Bool, true, false, List, [], ◌∷◌, ◌++◌, length, Option, Some, None, is_some, refl, sym, ap, subst, ◌∙◌, inl, inr, arith}
+use Rattle.std.proofs.Common.{◌≡◌, ◌≢◌, ℕ, ◌<◌, ◌≤◌, true, false, List, [], ◌∷◌, ◌++◌, length, Option, Some, is_some, refl, sym, ap, subst, ◌∙◌, inl, inr, arith}
 use mathlib.Core.Bool.{false≢true}
-use Rattle.mp_machine.specs.Lists.{IsIn, AllDiffer}
+use Rattle.mp_machine.specs.Lists.{IsIn}
 use Rattle.mp_machine.proofs.Lists.{same_item}
 use Rattle.mp_model.specs.declared.ids.TrxId.{TrxId}
 use Rattle.mp_cells.specs.declared.records.Mtr.{Mtr}
 use Rattle.mp_core_trx.specs.declared.part.Draw.{Draw}
 use Rattle.mp_core_trx.specs.Parts.{draw_of}
 use Rattle.mp_core_trx.specs.World.{drawn_in}
-use Rattle.mp_histories.specs.KeyOps.{KeyOp, put, restore, same_writer, FirstIs, live}
-use Rattle.mp_histories.specs.Commits.{Stamps, IsUnder, MayCover, AreStamps, PutsFit}
-use Rattle.mp_histories.specs.Histories.{History, older, Version, by_version, ops_on, live_on}
+use Rattle.mp_histories.specs.KeyOps.{same_writer, FirstIs, live}
+use Rattle.mp_histories.specs.Commits.{Stamps, MayCover, AreStamps, PutsFit}
+use Rattle.mp_histories.specs.Histories.{History, Version, by_version, ops_on, live_on}
 use Rattle.mp_histories.proofs.Writers.{decided, same_is, same_from}
 use Rattle.mp_histories.proofs.Cutting.{fits_earlier}
 use Rattle.mp_core.specs.declared.opening.CoreOpening.{CoreOpening}
 use Rattle.mp_core.specs.World.{CoreWorld}
 use Rattle.mp_core.specs.OwnMtrs.{row_put_by, commit_by_mtr, TrxMtr}
 use Rattle.mp_facts.specs.Facts.{opening_pages, live_at_height, made_in, IsForced, DrewStamp, CommittedStamp, Facts}
-use Rattle.mp_verdict.proofs.Options.{some_is, not_some}
+use Rattle.mp_verdict.proofs.Options.{some_is}
 use Rattle.mp_verdict.proofs.PlacesOf.{DoesPut, does, one_newer, well_here, older_with}
 
 module _ (o : CoreOpening) (w : CoreWorld) (facts : Facts o w) where

@@ -1,5 +1,5 @@
 -- What stands at a place of a history, and what its mtr does to a key.
-use Rattle.std.proofs.Common.{◌≡◌, ◌≢◌, ◌⊎◌, ℕ, ◌+◌, ◌<◌, ◌≤◌, ◌==◌, nat_lt, Bool, true, false, cond, List, [], ◌∷◌, ◌++◌, length, slice_get, Option, Some, None, refl, sym, ap, subst, ◌∙◌, inl, inr, arith, eq-eqb, ne_eqb, append_assoc}
+use Rattle.std.proofs.Common.{◌≡◌, ◌≢◌, ◌⊎◌, ℕ, ◌==◌, nat_lt, Bool, true, false, cond, List, [], ◌∷◌, ◌++◌, length, slice_get, Some, None, refl, sym, ap, subst, ◌∙◌, inl, inr, arith, eq-eqb, ne_eqb, append_assoc}
 use Rattle.std.proofs.lemmas.Bool.{eqb-true}
 use Rattle.std.proofs.lemmas.Bool.Decides.{nat_tests}
 use Rattle.std.proofs.lemmas.List.{length-append}
@@ -10,10 +10,10 @@ use Rattle.mp_cells.specs.declared.records.Mtr.{Mtr}
 use Rattle.mp_cells.specs.declared.records.Record.{Record}
 use Rattle.mp_cells.specs.declared.rows.Row.{Row}
 use Rattle.mp_cells.specs.Trees.{PageMap}
-use Rattle.mp_cells.specs.Plans.{Plan, plan_of}
+use Rattle.mp_cells.specs.Plans.{plan_of}
 use Rattle.mp_cells.specs.Writes.{rows_put, rows_restored}
-use Rattle.mp_histories.specs.KeyOps.{KeyOp, put, restore}
-use Rattle.mp_histories.specs.Histories.{History, older, entry_at, Version, ops_on}
+use Rattle.mp_histories.specs.KeyOps.{put, restore}
+use Rattle.mp_histories.specs.Histories.{History, older, entry_at, ops_on}
 use Rattle.mp_histories.specs.Chains.{MakesPut, MakesRestore, MakesCommit, WellMade, RunsFrom}
 use Rattle.mp_histories.proofs.Writers.{decided}
 use Rattle.mp_histories.proofs.MtrSteps.{put_on, back_on, none_on}
@@ -22,7 +22,7 @@ use Rattle.mp_histories.proofs.Standing.{runs_before}
 use Rattle.mp_core.specs.declared.opening.CoreOpening.{CoreOpening}
 use Rattle.mp_core.specs.World.{CoreWorld}
 use Rattle.mp_core.specs.OwnMtrs.{row_put_by, row_restored_by, TrxMtr}
-use Rattle.mp_facts.specs.Facts.{opening_pages, live_at_height, made_in, IsPutOf, Facts}
+use Rattle.mp_facts.specs.Facts.{opening_pages, made_in, IsPutOf, Facts}
 use Rattle.mp_verdict.proofs.Options.{some_is, not_some}
 
 -- the mtr puts a row of the key

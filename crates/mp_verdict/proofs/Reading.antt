@@ -1,5 +1,5 @@
 -- What a part shows a reader is its own last put, or what the durable commits at or below its view left.
-use Rattle.std.proofs.Common.{◌≡◌, ◌≢◌, ◌⊎◌, ℕ, ◌<◌, ◌≤◌, Bool, true, false, List, [], ◌∷◌, ◌++◌, length, Option, Some, None, is_some, refl, sym, ap, subst, ◌∙◌, inl, inr, arith}
+use Rattle.std.proofs.Common.{◌≡◌, ◌≢◌, ℕ, ◌<◌, ◌≤◌, true, List, length, Option, Some, None, is_some, refl, sym, ap, subst, ◌∙◌, inl, inr, arith}
 use mathlib.Core.Bool.{false≢true}
 use Rattle.std.proofs.lemmas.Bool.{cases_lt}
 use Rattle.mp_machine.specs.Lists.{IsIn}
@@ -7,9 +7,8 @@ use Rattle.mp_model.specs.declared.ids.TrxId.{TrxId}
 use Rattle.mp_cells.specs.declared.rows.Row.{Row}
 use Rattle.mp_cells.specs.PageView.{PageView}
 use Rattle.mp_core_trx.specs.declared.part.Draw.{Draw}
-use Rattle.mp_core_trx.specs.Parts.{draw_of}
 use Rattle.mp_core_pages.specs.declared.part.GivenPage.{GivenPage}
-use Rattle.mp_histories.specs.KeyOps.{kept_version, put_last, NeverBack}
+use Rattle.mp_histories.specs.KeyOps.{kept_version}
 use Rattle.mp_histories.specs.Readers.{IsLatestAt, IsReadAt, NobodyAt}
 use Rattle.mp_histories.specs.Histories.{History, older, Version, by_version, ops_on, live_on}
 use Rattle.mp_histories.specs.Chains.{row_of_key}
@@ -20,15 +19,15 @@ use Rattle.mp_histories.proofs.Reading.{read_at}
 use Rattle.mp_core.specs.declared.opening.CoreOpening.{CoreOpening}
 use Rattle.mp_core.specs.Invariant.{NumbersFit}
 use Rattle.mp_core.specs.World.{CoreWorld, core_part}
-use Rattle.mp_core.specs.OwnMtrs.{row_put_by, row_restored_by, commit_by_mtr, TrxMtr}
-use Rattle.mp_facts.specs.Facts.{opening_pages, made_in, IsForced, DrewStamp, CommittedStamp, Facts}
+use Rattle.mp_core.specs.OwnMtrs.{row_put_by, row_restored_by, TrxMtr}
+use Rattle.mp_facts.specs.Facts.{opening_pages, made_in, IsForced, DrewStamp, Facts}
 use Rattle.mp_supports.specs.Seeing.{HasOnlyPut, Sees}
-use Rattle.mp_verdict.specs.Reads.{PutBelow, LastPutBelow, PutsNothingBelow, PutOf, LastPutOf, IsLatestCommit, NoCommitPut, CommitsShow, ShowsReader}
-use Rattle.mp_verdict.proofs.Options.{some_is, not_some}
+use Rattle.mp_verdict.specs.Reads.{PutBelow, LastPutBelow, PutsNothingBelow, PutOf, IsLatestCommit, NoCommitPut, ShowsReader}
+use Rattle.mp_verdict.proofs.Options.{some_is}
 use Rattle.mp_verdict.proofs.PlacesOf.{put_of}
 use Rattle.mp_verdict.proofs.LastPuts.{Says, put_last_says, never_back}
 use Rattle.mp_verdict.proofs.OthersFit.{forced_drew, OthersCommitted, others_stamps, reader_not, others_fit}
-use Rattle.mp_verdict.proofs.ShownChains.{chains_at, chain_at, written_at, newest_row, IsTaken, row_or, walked}
+use Rattle.mp_verdict.proofs.ShownChains.{chain_at, written_at, newest_row, IsTaken, row_or, walked}
 
 module _ (o : CoreOpening) (w : CoreWorld) (facts : Facts o w) where
   -- nothing of a transaction whose commit is recorded was put back

@@ -1,5 +1,5 @@
 -- The value that a `get` was answered is the one that its transaction sees, and the rows of a `scan` the first that it sees.
-use Rattle.std.proofs.Common.{◌≡◌, ◌≢◌, ◌⊎◌, ℕ, suc, ◌+◌, ◌<◌, ◌≤◌, nat_le, max, Bool, true, false, List, [], ◌∷◌, length, Option, Some, None, refl, sym, ap, subst, ◌∙◌, inl, inr, arith}
+use Rattle.std.proofs.Common.{◌≡◌, ◌⊎◌, ℕ, ◌+◌, ◌<◌, ◌≤◌, false, List, [], ◌∷◌, length, Option, Some, None, refl, sym, ap, subst, ◌∙◌, inl, inr, arith}
 use Rattle.std.specs.Option.{IfSome}
 use Rattle.std.specs.List.{AllByRecursion}
 use Rattle.std.proofs.lemmas.Bool.Decides.{nat_tests}
@@ -30,7 +30,6 @@ use Rattle.mp_script.proofs.SeenRows.{seen_within}
 use Rattle.mp_cells.specs.declared.rows.Row.{Row}
 use Rattle.mp_cells.specs.PageView.{PageView}
 use Rattle.mp_cells.specs.Trees.{top}
-use Rattle.mp_core_trx.specs.declared.part.Begun.{Begun}
 use Rattle.mp_core_trx.specs.Parts.{begun_of, greatest_seen}
 use Rattle.mp_core_trx.specs.World.{begun_in, tso_seen_in}
 use Rattle.mp_core_pages.specs.declared.part.GivenPage.{GivenPage}
@@ -40,8 +39,8 @@ use Rattle.mp_core.specs.OwnMtrs.{TrxMtr}
 use Rattle.mp_facts.specs.Facts.{opening_pages}
 use Rattle.mp_supports.specs.Work.{Work, name_of}
 use Rattle.mp_supports.specs.Seeing.{Sees, ScansTo}
-use Rattle.mp_supports.specs.Supports.{Trace, looked_trace, IsTrxOf, SupportsTrxReply, SupportsReply}
-use Rattle.mp_supports.specs.Kept.{Entry, Precedes}
+use Rattle.mp_supports.specs.Supports.{Trace, IsTrxOf, SupportsTrxReply, SupportsReply}
+use Rattle.mp_supports.specs.Kept.{Entry}
 use Rattle.mp_verdict.specs.Standing.{StandsAbove}
 use Rattle.mp_verdict.specs.Counting.{CountsCommits, IsReadReply}
 use Rattle.mp_verdict.specs.Finished.{Finished}

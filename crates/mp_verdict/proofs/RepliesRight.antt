@@ -1,7 +1,7 @@
 -- Each reply of a finished run that refuses nothing is right, and follows its transaction's refusals.
-use Rattle.std.proofs.Common.{◌≡◌, ◌≢◌, ◌⊎◌, ℕ, zero, suc, ◌+◌, ◌<◌, ◌≤◌, ◌==◌, ◌&&◌, ◌||◌, if◌then◌else◌, Bool, true, false, cond, List, [], ◌∷◌, ◌++◌, Option, Some, None, is_some, refl, sym, ap, subst, ◌∙◌, inl, inr, arith, eq-eqb, ne_eqb}
+use Rattle.std.proofs.Common.{◌≡◌, ◌≢◌, ℕ, zero, suc, ◌+◌, ◌<◌, ◌≤◌, ◌==◌, ◌&&◌, ◌||◌, Bool, true, false, cond, List, [], ◌∷◌, Some, is_some, refl, sym, ap, subst, ◌∙◌, inl, inr, arith, eq-eqb, ne_eqb}
 use mathlib.Core.Bool.{false≢true}
-use Rattle.std.specs.List.{list_any, AllByRecursion}
+use Rattle.std.specs.List.{list_any}
 use Rattle.std.proofs.lemmas.Bool.{cases_lt, and_from}
 use Rattle.mp_machine.specs.Lists.{IsIn}
 use Rattle.mp_model.specs.declared.histories.Opening.{Opening}
@@ -25,10 +25,10 @@ use Rattle.mp_core.specs.World.{CoreWorld, core_part}
 use Rattle.mp_supports.specs.Work.{Work}
 use Rattle.mp_supports.specs.Supports.{SupportsReply}
 use Rattle.mp_supports.specs.Kept.{Entry, answers_in}
-use Rattle.mp_verdict.specs.Counting.{CountsCommits, IsReadReply}
+use Rattle.mp_verdict.specs.Counting.{CountsCommits}
 use Rattle.mp_verdict.specs.Finished.{is_session_on, answered_so_far, IsAnsweredNext, down_lines, Finished}
 use Rattle.mp_verdict.specs.Told.{IsToldBy}
-use Rattle.mp_verdict.proofs.Options.{some_is, not_some}
+use Rattle.mp_verdict.proofs.Options.{some_is}
 use Rattle.mp_verdict.proofs.ScriptLines.{line_is}
 use Rattle.mp_verdict.proofs.ToldAnswers.{IsKeptBy, on_node, supported, kept_answer}
 use Rattle.mp_verdict.proofs.ReadsRight.{read_right}

@@ -1,5 +1,5 @@
 -- Rows whose keys rise, and which agree with others at each key up to a bound, are the first of these.
-use Rattle.std.proofs.Common.{◌≡◌, ◌⊎◌, ℕ, zero, suc, ◌+◌, ◌<◌, ◌≤◌, ◌==◌, nat_le, Bool, true, false, cond, List, [], ◌∷◌, ◌++◌, length, take, filter, Option, Some, None, refl, sym, ap, subst, ◌∙◌, inl, inr, arith, append-nil, eq-eqb, ne_eqb}
+use Rattle.std.proofs.Common.{◌≡◌, ◌⊎◌, ℕ, zero, suc, ◌+◌, ◌<◌, ◌≤◌, nat_le, Bool, true, false, cond, List, [], ◌∷◌, ◌++◌, length, take, filter, Some, None, refl, sym, ap, subst, ◌∙◌, inl, inr, arith, append-nil, eq-eqb, ne_eqb}
 use Rattle.std.specs.List.{AllByRecursion}
 use Rattle.std.proofs.lemmas.Bool.{cases_lt, leb-true}
 use Rattle.std.proofs.lemmas.Bool.Decides.{nat_tests}
@@ -8,11 +8,9 @@ use Rattle.std.proofs.Math.Seq.{take-append_seam}
 use Rattle.mp_model.specs.declared.key_value.KeyValue.{KeyValue}
 use Rattle.mp_model.specs.Folded.{value_at, AscendsFrom, KeysAscend}
 use Rattle.mp_script.specs.Right.{first_rows_from}
-use Rattle.mp_cells.specs.declared.rows.Row.{Row}
-use Rattle.mp_cells.specs.Trees.{row_at, top}
+use Rattle.mp_cells.specs.Trees.{top}
 use Rattle.mp_cells.proofs.KeyOrder.{Rises}
 use Rattle.mp_histories.proofs.Writers.{decided}
-use Rattle.mp_verdict.specs.LastValues.{or_else_value}
 use Rattle.mp_verdict.proofs.Options.{some_is, not_some}
 
 abbrev pub RowsRise : ℕ → ℕ → List KeyValue → Type 0

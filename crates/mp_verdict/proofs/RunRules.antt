@@ -1,24 +1,22 @@
 -- The rules of a legal transcript that speak of parts, numbers and views, in mode Run.
-use Rattle.std.proofs.Common.{◌≡◌, ◌≢◌, ◌⊎◌, ℕ, zero, suc, ◌+◌, ◌<◌, ◌≤◌, ◌==◌, ◌||◌, if◌then◌else◌, Bool, true, false, cond, List, [], ◌∷◌, ◌++◌, length, map, filter, Option, Some, None, refl, sym, ap, subst, ◌∙◌, inl, inr, arith, ne_eqb}
+use Rattle.std.proofs.Common.{◌≡◌, ◌≢◌, ℕ, zero, suc, ◌+◌, ◌<◌, ◌==◌, ◌||◌, Bool, true, false, cond, List, [], ◌∷◌, length, map, filter, refl, sym, ap, subst, ◌∙◌, inl, inr, arith, ne_eqb}
 use mathlib.Core.Bool.{false≢true}
-use Rattle.std.specs.List.{flat_map, AllByRecursion}
 use Rattle.mp_machine.specs.Lists.{IsIn}
 use Rattle.mp_model.specs.Folded.{AscendsFrom, KeysAscend}
 use Rattle.mp_model.specs.declared.histories.Opening.{Opening}
 use Rattle.mp_model.specs.declared.replies.Answer.{Answer}
 use Rattle.mp_model.specs.declared.transcripts.Down.{Down}
 use Rattle.mp_model.specs.declared.transcripts.Mode.{Mode}
-use Rattle.mp_model.specs.declared.transcripts.Mode.TheVariants.{Step, Run}
+use Rattle.mp_model.specs.declared.transcripts.Mode.TheVariants.{Run}
 use Rattle.mp_model.specs.declared.transcripts.Part.{Part}
 use Rattle.mp_model.specs.declared.transcripts.Transcript.{Transcript}
-use Rattle.mp_script.specs.declared.statements.Line.{Line}
 use Rattle.mp_script.specs.declared.statements.Script.{Script}
 use Rattle.mp_script.specs.declared.statements.SessionOn.{SessionOn}
 use Rattle.mp_script.specs.Below.{EachBelow, numbers, answered, stated}
-use Rattle.mp_script.specs.Execution.{Execution, execution_of, all_answers}
+use Rattle.mp_script.specs.Execution.{Execution}
 use Rattle.mp_script.specs.InTheirPart.{count_from, part_primaries, BeginsAtOpening, belongs, IsNextStatement, LeavesNone, AnswersEachStatement, AnswersEachOnce}
 use Rattle.mp_script.specs.Legal.{ViewsAreRight}
-use Rattle.mp_script.specs.Numbered.{AreNumbered, IfShowsView, CoversAbove, IsRightView}
+use Rattle.mp_script.specs.Numbered.{AreNumbered, IfShowsView, IsRightView}
 use Rattle.mp_script.specs.Spelling.{IsSpelled}
 use Rattle.mp_script.proofs.InTurn.{once-next, once-none_left}
 use Rattle.mp_core_trx.specs.Events.{IsNode}

@@ -1,11 +1,9 @@
 -- The transcript of a run in mode Run: its execution has the answers of the primaries, and in each part the mtrs rise.
-use Rattle.std.proofs.Common.{◌≡◌, ◌⊎◌, ℕ, zero, suc, ◌+◌, ◌<◌, ◌≤◌, List, [], ◌∷◌, map, Option, Some, None, refl, sym, ap, subst, ◌∙◌, inl, inr, arith}
-use Rattle.std.specs.List.{flat_map, AllByRecursion}
+use Rattle.std.proofs.Common.{◌≡◌, ℕ, zero, suc, ◌+◌, ◌<◌, ◌≤◌, List, [], refl, sym, ap, subst, ◌∙◌, inl, inr, arith}
 use Rattle.std.proofs.lemmas.Bool.{cases_lt}
 use Rattle.mp_machine.specs.Lists.{IsIn}
 use Rattle.mp_script.specs.Below.{EachBelow}
 use Rattle.mp_model.specs.declared.histories.Opening.{Opening}
-use Rattle.mp_model.specs.declared.replies.Answer.{Answer}
 use Rattle.mp_model.specs.declared.transcripts.Down.{Down}
 use Rattle.mp_model.specs.declared.transcripts.Part.{Part}
 use Rattle.mp_model.specs.declared.transcripts.Transcript.{Transcript}
@@ -18,7 +16,6 @@ use Rattle.mp_script.specs.Spelling.{IsSpelled}
 use Rattle.mp_core_trx.specs.Events.{IsNode}
 use Rattle.mp_core.specs.declared.opening.CoreOpening.{CoreOpening}
 use Rattle.mp_core.specs.World.{CoreWorld}
-use Rattle.mp_core.specs.OwnMtrs.{TrxMtr}
 use Rattle.mp_supports.specs.Work.{Work}
 use Rattle.mp_supports.specs.Kept.{Entry, answers_in}
 use Rattle.mp_verdict.specs.Standing.{StandsAbove}

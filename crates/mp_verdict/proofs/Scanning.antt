@@ -1,5 +1,5 @@
 -- The rows that stretches of leaves show, one after another, are the first of those that their transaction sees.
-use Rattle.std.proofs.Common.{◌≡◌, ◌⊎◌, ℕ, zero, suc, ◌+◌, ◌<◌, ◌≤◌, ◌==◌, ◌&&◌, nat_lt, nat_le, Bool, true, false, cond, List, [], ◌∷◌, ◌++◌, length, filter, Option, Some, None, refl, sym, ap, subst, ◌∙◌, inl, inr, arith, eq-eqb, ne_eqb}
+use Rattle.std.proofs.Common.{◌≡◌, ◌⊎◌, ℕ, zero, suc, ◌+◌, ◌<◌, ◌≤◌, ◌==◌, ◌&&◌, nat_lt, nat_le, Bool, true, false, cond, List, [], ◌∷◌, ◌++◌, length, filter, Option, Some, None, refl, sym, ap, subst, ◌∙◌, inl, inr, arith, ne_eqb}
 use mathlib.Core.Bool.{false≢true}
 use Rattle.std.specs.List.{AllByRecursion}
 use Rattle.std.proofs.lemmas.Bool.{cases_lt, eqb-true, and_from, and_parts, leb-true, le-leb, ltb-true, lt-ltb}
@@ -21,7 +21,7 @@ use Rattle.mp_core.specs.declared.opening.CoreOpening.{CoreOpening}
 use Rattle.mp_core.specs.Invariant.{NumbersFit}
 use Rattle.mp_core.specs.World.{CoreWorld, core_part}
 use Rattle.mp_core.specs.declared.part.CorePart.{CorePart}
-use Rattle.mp_facts.specs.Facts.{pages_at_height, Facts}
+use Rattle.mp_facts.specs.Facts.{Facts}
 use Rattle.mp_supports.specs.Seeing.{LeadsToSeen, Sees, key_value_of, AreSeenAs, IsStretch, ScansTo}
 use Rattle.mp_machine.specs.Lists.{IsIn}
 use Rattle.mp_verdict.specs.LastValues.{or_else_value}

@@ -1,8 +1,8 @@
 -- Of a spelled script: each session is on one primary, its statements' numbers rise, and each transaction has one name.
-use Rattle.std.proofs.Common.{◌≡◌, ◌≢◌, ◌⊎◌, ℕ, zero, suc, ◌+◌, ◌-◌, ◌<◌, ◌≤◌, ◌==◌, ◌&&◌, ◌||◌, nat_lt, Bool, true, false, cond, List, [], ◌∷◌, ◌++◌, map, filter, slice_get, Option, Some, None, refl, sym, ap, subst, ◌∙◌, inl, inr, arith, eq-eqb, ne_eqb}
+use Rattle.std.proofs.Common.{◌≡◌, ◌≢◌, ℕ, zero, suc, ◌+◌, ◌-◌, ◌<◌, ◌≤◌, ◌==◌, ◌&&◌, ◌||◌, nat_lt, Bool, true, false, cond, List, [], ◌∷◌, ◌++◌, map, filter, slice_get, Some, None, refl, sym, ap, subst, ◌∙◌, inl, inr, arith, eq-eqb}
 use mathlib.Core.Bool.{false≢true}
-use Rattle.std.specs.List.{list_any, AllByRecursion}
-use Rattle.std.proofs.lemmas.Bool.{cases_lt, eqb-true, and_from, and_parts, ltb-true}
+use Rattle.std.specs.List.{AllByRecursion}
+use Rattle.std.proofs.lemmas.Bool.{cases_lt, eqb-true, and_parts, ltb-true}
 use Rattle.mp_machine.specs.Lists.{IsIn}
 use Rattle.mp_model.specs.Folded.{AscendsFrom}
 use Rattle.mp_model.specs.declared.ids.TrxId.{TrxId}
@@ -16,7 +16,7 @@ use Rattle.mp_script.specs.Below.{stated}
 use Rattle.mp_script.specs.InTheirPart.{count_from}
 use Rattle.mp_script.specs.Entries.{Said, nothing_said, with_entry, said_after, is_declared, statements}
 use Rattle.mp_script.specs.Execution.{line_at, stmt_in}
-use Rattle.mp_script.specs.Spelling.{MayDeclare, EntryFits, AllFit, IsSpelled}
+use Rattle.mp_script.specs.Spelling.{AllFit, IsSpelled}
 use Rattle.mp_script.specs.SpelledLines.{IsLineInRange, HaveTheirBegin}
 use Rattle.mp_script.specs.Transactions.{begins, begin_in}
 use Rattle.mp_script.proofs.SpelledLines.{spelled_in_order}
@@ -24,7 +24,7 @@ use Rattle.mp_histories.proofs.Writers.{decided}
 use Rattle.mp_supports.specs.Work.{Work, name_of_line, begin_names, name_of}
 use Rattle.mp_verdict.specs.Finished.{is_session_on}
 use Rattle.mp_verdict.proofs.Options.{some_is, not_some}
-use Rattle.mp_verdict.proofs.Ordered.{Pairwise, in_left, in_right, in_either, pairwise_append, pairwise_filter, from_filter}
+use Rattle.mp_verdict.proofs.Ordered.{Pairwise, pairwise_append, pairwise_filter}
 
 -- ---- sessions
 

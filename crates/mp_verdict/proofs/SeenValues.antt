@@ -1,6 +1,6 @@
 -- What a transaction sees at a key is the value that its part shows it: by the views of transactions, and then by their
 -- statements.
-use Rattle.std.proofs.Common.{◌≡◌, ◌≢◌, ◌⊎◌, ℕ, zero, suc, ◌+◌, ◌<◌, ◌≤◌, ◌==◌, Bool, true, false, cond, List, [], ◌∷◌, ◌++◌, length, Option, Some, None, refl, sym, ap, subst, ◌∙◌, inl, inr, arith, append-nil, eq-eqb, ne_eqb}
+use Rattle.std.proofs.Common.{◌≡◌, ◌⊎◌, ℕ, zero, suc, ◌+◌, ◌<◌, ◌≤◌, ◌==◌, Bool, true, false, cond, List, [], ◌∷◌, length, Option, Some, None, refl, sym, ap, subst, ◌∙◌, inl, inr, arith, eq-eqb}
 use mathlib.Core.Bool.{false≢true}
 use Rattle.std.proofs.lemmas.Bool.{cases_lt, eqb-true}
 use Rattle.mp_model.specs.declared.ids.TrxId.{TrxId}
@@ -13,21 +13,19 @@ use Rattle.mp_script.specs.declared.statements.Stmt.{Stmt}
 use Rattle.mp_script.specs.declared.statements.Stmt.TheVariants.{Begin, Get, Put, Del, Copy, Scan, Commit, Rollback}
 use Rattle.mp_script.specs.Execution.{Execution, stmt_at, reply_at}
 use Rattle.mp_script.specs.Transactions.{trx_of, view_of, statements_before, wrote_at, is_wrote, target_key}
-use Rattle.mp_script.specs.Seen.{write_by, write_at, writes_among, acknowledgement, rows_of_view}
+use Rattle.mp_script.specs.Seen.{write_by, write_at, acknowledgement, rows_of_view}
 use Rattle.mp_cells.specs.declared.rows.Row.{Row}
-use Rattle.mp_histories.specs.Chains.{row_of_key}
 use Rattle.mp_histories.proofs.Writers.{decided}
 use Rattle.mp_core.specs.declared.opening.CoreOpening.{CoreOpening}
 use Rattle.mp_core.specs.World.{CoreWorld}
 use Rattle.mp_core.specs.OwnMtrs.{TrxMtr}
-use Rattle.mp_facts.specs.Facts.{opening_pages, IsForced, Facts}
-use Rattle.mp_verdict.specs.Reads.{PutBelow, LastPutBelow, PutsNothingBelow, PutOf, LastPutOf, IsLatestCommit, NoCommitPut, CommitsShow, ShowsReader}
-use Rattle.mp_verdict.specs.LastValues.{or_else_value, last_value, value_over, first_writes, writes_acknowledged, writes_of_commit, NoCommitWrites, IsLatestWrite, IsValueInView}
-use Rattle.mp_verdict.specs.Writers.{WroteKey, LiesBetween, IsCopied, IsValueOf, IsWriter, IsAcknowledged, TellsOfWorld}
+use Rattle.mp_facts.specs.Facts.{IsForced, Facts}
+use Rattle.mp_verdict.specs.Reads.{PutBelow, LastPutBelow, PutsNothingBelow, PutOf, LastPutOf, CommitsShow, ShowsReader}
+use Rattle.mp_verdict.specs.LastValues.{or_else_value, last_value, value_over, first_writes, writes_acknowledged, writes_of_commit, IsValueInView}
+use Rattle.mp_verdict.specs.Writers.{WroteKey, LiesBetween, IsValueOf, IsWriter, IsAcknowledged, TellsOfWorld}
 use Rattle.mp_verdict.proofs.Options.{some_is, not_some}
 use Rattle.mp_verdict.proofs.LastValues.{value_at-over, last_value-append}
 use Rattle.mp_verdict.proofs.ViewValues.{value_in_view}
-use Rattle.mp_verdict.proofs.OthersFit.{forced_drew}
 
 -- a statement that writes no key is no write
 no_target : (rows : List KeyValue) (stmt : Option Stmt) → target_key stmt ≡ None → write_by rows stmt ≡ []

@@ -1,26 +1,23 @@
 -- What a part shows of the versions of a key is the chain of those that stood at its leaf's height; and what it shows a
 -- reader is the first of them that is the reader's own or was committed at or below its view.
-use Rattle.std.proofs.Common.{◌≡◌, ◌≢◌, ◌⊎◌, ℕ, ◌<◌, ◌≤◌, Bool, true, false, List, [], ◌∷◌, ◌++◌, length, Option, Some, None, is_some, refl, sym, ap, subst, ◌∙◌, inl, inr, arith}
+use Rattle.std.proofs.Common.{◌≡◌, ℕ, ◌<◌, ◌≤◌, true, List, [], ◌∷◌, Option, Some, None, is_some, refl, sym, ap, subst, ◌∙◌, inl, inr, arith}
 use mathlib.Core.Bool.{false≢true}
 use Rattle.std.specs.List.{AllByRecursion}
 use Rattle.mp_machine.specs.Lists.{IsIn}
 use Rattle.mp_model.specs.declared.ids.TrxId.{TrxId}
-use Rattle.mp_cells.specs.declared.records.Mtr.{Mtr}
-use Rattle.mp_cells.specs.declared.rows.Link.{Link}
 use Rattle.mp_cells.specs.declared.rows.Row.{Row}
 use Rattle.mp_cells.specs.PageView.{PageView}
-use Rattle.mp_cells.specs.Trees.{PageMap, row_at, height_of, rows_in}
+use Rattle.mp_cells.specs.Trees.{row_at, height_of}
 use Rattle.mp_cells.specs.Writes.{record_in, undo_at, version_of}
 use Rattle.mp_cells.proofs.Places.{row_in_leaf}
 use Rattle.mp_cells.proofs.Spare.{with_none}
 use Rattle.mp_plans.specs.Fitting.{IsLeafOf}
-use Rattle.mp_core_trx.specs.declared.part.SlotLoad.{SlotLoad}
 use Rattle.mp_core_trx.specs.Parts.{trx, draw_of}
-use Rattle.mp_core_trx.specs.World.{begun_in, drawn_in, loaded_in}
+use Rattle.mp_core_trx.specs.World.{drawn_in}
 use Rattle.mp_core_pages.specs.declared.part.GivenPage.{GivenPage}
 use Rattle.mp_histories.specs.KeyOps.{same_writer}
 use Rattle.mp_histories.specs.Readers.{ShowsTo, Takes}
-use Rattle.mp_histories.specs.Histories.{History, older, pages_after, Version, by_version, rows_of_versions, live_on}
+use Rattle.mp_histories.specs.Histories.{History, older, pages_after, Version, by_version, rows_of_versions}
 use Rattle.mp_histories.specs.Chains.{row_over, LinksTo, IsChain, row_of_key, RunsFrom, HasChains, StaysNoted, IsPutAt}
 use Rattle.mp_histories.proofs.Writers.{decided, same_is, other_is}
 use Rattle.mp_histories.proofs.ChainFacts.{links_one}
@@ -31,7 +28,7 @@ use Rattle.mp_core.specs.declared.opening.CoreOpening.{CoreOpening}
 use Rattle.mp_core.specs.Invariant.{NumbersFit}
 use Rattle.mp_core.specs.World.{CoreWorld, core_part}
 use Rattle.mp_facts.specs.Facts.{opening_pages, pages_at_height, pages_now, live_at_height, IsForced, CommittedStamp, Facts}
-use Rattle.mp_supports.specs.Seeing.{ShowsNewest, ShowsNext, IsLoadOf, IsHidden, IsCommittedBelow, IsSettledFor, IsSeenBy, LeadsToSeen}
+use Rattle.mp_supports.specs.Seeing.{ShowsNewest, ShowsNext, IsHidden, IsCommittedBelow, IsSeenBy, LeadsToSeen}
 use Rattle.mp_verdict.proofs.Options.{some_is, not_some}
 use Rattle.mp_verdict.proofs.OthersFit.{forced_drew, forced_once, OthersCommitted}
 

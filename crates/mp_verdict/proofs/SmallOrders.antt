@@ -1,5 +1,5 @@
 -- No primary is down, so no line is there.
-use Rattle.std.proofs.Common.{◌≡◌, ℕ, zero, suc, ◌+◌, List, [], ◌∷◌, refl, sym, ◌∙◌}
+use Rattle.std.proofs.Common.{◌≡◌, ℕ, zero, suc, ◌+◌, [], ◌∷◌, refl, ◌∙◌}
 use Rattle.mp_model.specs.declared.transcripts.Down.{Down}
 use Rattle.mp_verdict.specs.Finished.{down_lines}
 

@@ -1,15 +1,13 @@
 -- What rests on a session's earlier answers is the same by all answers and by those that stand above.
-use Rattle.std.proofs.Common.{◌≡◌, ◌≢◌, ◌⊎◌, ℕ, zero, suc, ◌+◌, ◌-◌, ◌<◌, ◌≤◌, ◌||◌, if◌then◌else◌, Bool, true, false, cond, List, [], ◌∷◌, ◌++◌, Option, Some, None, refl, sym, ap, subst, ◌∙◌, inl, inr, arith, append_assoc, append-nil}
+use Rattle.std.proofs.Common.{◌≡◌, ℕ, zero, suc, ◌+◌, ◌<◌, ◌||◌, if◌then◌else◌, Bool, List, [], ◌∷◌, ◌++◌, Option, Some, None, refl, sym, ap, subst, ◌∙◌, inl, inr, arith, append_assoc, append-nil}
 use Rattle.std.specs.Option.{option_map}
 use Rattle.mp_machine.specs.Lists.{IsIn}
 use Rattle.mp_model.specs.declared.histories.Opening.{Opening}
-use Rattle.mp_model.specs.declared.ids.TrxName.{TrxName}
 use Rattle.mp_model.specs.declared.replies.Answer.{Answer}
 use Rattle.mp_model.specs.declared.replies.Reply.{Reply}
 use Rattle.mp_model.specs.declared.transcripts.Down.{Down}
 use Rattle.mp_script.specs.declared.statements.Line.{Line}
 use Rattle.mp_script.specs.declared.statements.Script.{Script}
-use Rattle.mp_script.specs.declared.statements.Stmt.{Stmt}
 use Rattle.mp_script.specs.Below.{EachBelow}
 use Rattle.mp_script.specs.Execution.{Execution, stmt_in, stmt_at, answer_at, reply_at}
 use Rattle.mp_script.specs.Spelling.{IsSpelled}
@@ -21,10 +19,10 @@ use Rattle.mp_supports.specs.Kept.{Entry, answers_in}
 use Rattle.mp_verdict.specs.Standing.{StandsAbove}
 use Rattle.mp_verdict.specs.Finished.{answered_so_far, IsAnsweredNext, Finished}
 use Rattle.mp_verdict.specs.Told.{IsToldBy}
-use Rattle.mp_verdict.proofs.Options.{some_is, not_some}
-use Rattle.mp_verdict.proofs.Ordered.{in_left, in_right, in_either, in_found, from_found, from_above_found}
+use Rattle.mp_verdict.proofs.Options.{not_some}
+use Rattle.mp_verdict.proofs.Ordered.{in_left, in_either, in_found, from_found, from_above_found}
 use Rattle.mp_verdict.proofs.KeptOrder.{index_up}
-use Rattle.mp_verdict.proofs.ToldAnswers.{answer_is, answer_found, IsKeptBy, in_run, kept_answer, same_node, above_by_index, one_answer, answer_here}
+use Rattle.mp_verdict.proofs.ToldAnswers.{answer_is, answer_found, IsKeptBy, in_run, kept_answer, same_node, one_answer, answer_here}
 
 -- the place of an item, and what holds of it with those above
 pub record IsPlacedIn {T : Type 0} (P : List T → T → Type 0) (above xs : List T) (y : T) : Type 0 where

@@ -1,25 +1,23 @@
 -- The rules of a legal transcript that speak of parts, numbers and views, in mode Step.
-use Rattle.std.proofs.Common.{◌≡◌, ◌≢◌, ◌⊎◌, ℕ, zero, suc, ◌+◌, ◌<◌, ◌≤◌, ◌==◌, ◌||◌, if◌then◌else◌, Bool, true, false, cond, List, [], ◌∷◌, ◌++◌, length, map, filter, Option, Some, None, refl, sym, ap, subst, ◌∙◌, inl, inr, arith, eq-eqb, ne_eqb}
+use Rattle.std.proofs.Common.{◌≡◌, ◌≢◌, ℕ, ◌==◌, Bool, true, false, cond, List, [], ◌∷◌, length, map, filter, Option, Some, None, refl, sym, ap, subst, ◌∙◌, inl, inr, arith, eq-eqb, ne_eqb}
 use mathlib.Core.Bool.{false≢true}
-use Rattle.std.specs.List.{filter_map, flat_map, cons_option, AllByRecursion}
+use Rattle.std.specs.List.{cons_option, AllByRecursion}
 use Rattle.mp_machine.specs.Lists.{IsIn}
 use Rattle.mp_model.specs.Folded.{KeysAscend}
 use Rattle.mp_model.specs.declared.histories.Opening.{Opening}
 use Rattle.mp_model.specs.declared.replies.Answer.{Answer}
 use Rattle.mp_model.specs.declared.transcripts.Down.{Down}
 use Rattle.mp_model.specs.declared.transcripts.Mode.{Mode}
-use Rattle.mp_model.specs.declared.transcripts.Mode.TheVariants.{Step, Run}
 use Rattle.mp_model.specs.declared.transcripts.Part.{Part}
 use Rattle.mp_model.specs.declared.transcripts.Transcript.{Transcript}
-use Rattle.mp_script.specs.declared.statements.Line.{Line}
 use Rattle.mp_script.specs.declared.statements.Script.{Script}
 use Rattle.mp_script.specs.declared.statements.SessionOn.{SessionOn}
 use Rattle.mp_script.specs.Below.{EachBelow, numbers, answered, stated}
 use Rattle.mp_script.specs.Entries.{is_declared}
-use Rattle.mp_script.specs.Execution.{Execution, execution_of, all_answers}
+use Rattle.mp_script.specs.Execution.{Execution}
 use Rattle.mp_script.specs.InTheirPart.{part_primaries, BeginsAtOpening, belongs, IsNextStatement, LeavesNone, AnswersEachStatement, AnswersEachOnce}
 use Rattle.mp_script.specs.Legal.{ViewsAreRight}
-use Rattle.mp_script.specs.Numbered.{AreNumbered, IfShowsView, CoversAbove, IsRightView}
+use Rattle.mp_script.specs.Numbered.{AreNumbered, IfShowsView, IsRightView}
 use Rattle.mp_script.specs.Spelling.{IsSpelled}
 use Rattle.mp_script.proofs.InTurn.{once-next, once-none_left}
 use Rattle.mp_core_trx.specs.Events.{IsNode}
@@ -32,16 +30,16 @@ use Rattle.mp_supports.specs.Kept.{Entry, answers_in}
 use Rattle.mp_verdict.specs.Standing.{StandsAbove}
 use Rattle.mp_verdict.specs.Counting.{CountsCommits, AreApartAnswers}
 use Rattle.mp_verdict.specs.Finished.{is_session_on, Finished}
-use Rattle.mp_verdict.specs.Orders.{NodeEntry, entries_given, given_by, IsMerged, StepOrder, ViewsCover, IsWholePart, IsStepTranscript}
+use Rattle.mp_verdict.specs.Orders.{NodeEntry, entries_given, given_by, IsMerged, StepOrder, ViewsCover, IsStepTranscript}
 use Rattle.mp_verdict.specs.Told.{IsToldBy}
-use Rattle.mp_verdict.proofs.Ordered.{Pairwise, above_in, in_found, from_found, from_above_found, from_above_map, above_filter, above_map, from_map}
+use Rattle.mp_verdict.proofs.Ordered.{above_in, from_above_found, from_above_map, above_filter, above_map}
 use Rattle.mp_verdict.proofs.OpeningRows.{opening_ascend}
 use Rattle.mp_verdict.proofs.KeptOrder.{index_up}
 use Rattle.mp_verdict.proofs.ToldAnswers.{IsKeptBy, one_node, on_node, kept_answer, same_node, one_entry}
 use Rattle.mp_verdict.proofs.Numbering.{pairs_by, counts, are_numbered, views_right}
 use Rattle.mp_verdict.proofs.RunRules.{apart_by, none_answered}
 use Rattle.mp_verdict.proofs.Declared.{on_declared, declared_on, undeclared_states}
-use Rattle.mp_verdict.proofs.StepTold.{one_part, step_mode, given_answers, all_are, kept_given, step_told, in_its_part}
+use Rattle.mp_verdict.proofs.StepTold.{one_part, step_mode, all_are, kept_given, step_told, in_its_part}
 
 -- one answer more, or none, before the same answers of a session
 same_answered : (session : ℕ) (o : Option Answer) (xs ys : List Answer) → answered session xs ≡ answered session ys → answered session (cons_option o xs) ≡ answered session (cons_option o ys)

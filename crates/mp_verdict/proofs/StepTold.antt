@@ -1,8 +1,7 @@
 -- The transcript of a run in mode Step: its execution has the answers of all primaries in the order in which they were given,
 -- and in it the mtrs rise.
-use Rattle.std.proofs.Common.{◌≡◌, ◌⊎◌, ℕ, zero, suc, ◌+◌, ◌<◌, ◌≤◌, ◌==◌, List, [], ◌∷◌, ◌++◌, map, filter, Option, Some, None, refl, sym, ap, subst, ◌∙◌, inl, inr, arith, eq-eqb, append-nil}
+use Rattle.std.proofs.Common.{◌≡◌, ℕ, ◌+◌, ◌<◌, ◌≤◌, ◌==◌, List, [], ◌∷◌, filter, refl, sym, ap, subst, ◌∙◌, inl, inr, arith, eq-eqb, append-nil}
 use Rattle.std.specs.List.{filter_map, flat_map, AllByRecursion}
-use Rattle.std.proofs.lemmas.Bool.{eqb-true}
 use Rattle.mp_machine.specs.Lists.{IsIn}
 use Rattle.mp_model.specs.Folded.{AscendsFrom}
 use Rattle.mp_model.specs.declared.histories.Opening.{Opening}
@@ -22,13 +21,12 @@ use Rattle.mp_core.specs.World.{CoreWorld}
 use Rattle.mp_core.specs.OwnMtrs.{TrxMtr}
 use Rattle.mp_supports.specs.Work.{Work}
 use Rattle.mp_supports.specs.Kept.{Entry, answers_in}
-use Rattle.mp_verdict.specs.Standing.{StandsAbove}
 use Rattle.mp_verdict.specs.Finished.{Finished}
-use Rattle.mp_verdict.specs.Orders.{NodeEntry, entries_given, given_by, IsMerged, StepOrder, IsWholePart, IsStepTranscript}
+use Rattle.mp_verdict.specs.Orders.{NodeEntry, entries_given, IsMerged, StepOrder, IsWholePart, IsStepTranscript}
 use Rattle.mp_verdict.specs.Told.{IsToldBy}
-use Rattle.mp_verdict.proofs.Ordered.{Pairwise, pair_above, all_in, above_in, in_found, from_found, above_found, from_above_found, in_map, from_map, from_above_map, in_filter, from_filter, in_flat, from_flat}
+use Rattle.mp_verdict.proofs.Ordered.{Pairwise, pair_above, all_in, above_in, in_found, from_found, above_found, from_above_found, in_map, from_map, from_above_map, in_filter, from_filter}
 use Rattle.mp_verdict.proofs.ToldAnswers.{IsKeptBy, same_node, one_entry}
-use Rattle.mp_verdict.proofs.KeyConflicts.{all_of, MtrsRise, see_earlier, hold_keys}
+use Rattle.mp_verdict.proofs.KeyConflicts.{MtrsRise, see_earlier, hold_keys}
 
 -- what ascends rises pairwise
 ascend_from : {T : Type 0} (number : T → ℕ) (low : ℕ) (xs : List T) → AscendsFrom number low xs → (x : T) → IsIn x xs → low ≤ number x

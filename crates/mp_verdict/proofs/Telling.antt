@@ -1,14 +1,12 @@
 -- The execution of a finished run tells of its world: its acknowledged commits are the durable ones.
-use Rattle.std.proofs.Common.{◌≡◌, ◌≢◌, ◌⊎◌, ℕ, suc, ◌+◌, ◌-◌, ◌<◌, ◌≤◌, ◌==◌, Bool, true, false, cond, List, [], ◌∷◌, length, Option, Some, None, is_some, refl, sym, ap, subst, ◌∙◌, inl, inr, arith, eq-eqb}
+use Rattle.std.proofs.Common.{◌≡◌, ◌≢◌, ℕ, suc, ◌+◌, ◌<◌, ◌≤◌, Bool, true, cond, List, [], ◌∷◌, length, Option, Some, None, is_some, refl, sym, ap, subst, ◌∙◌, inl, inr, arith, eq-eqb}
 use mathlib.Core.Bool.{false≢true}
 use Rattle.std.specs.Prelude.{find}
-use Rattle.std.specs.Option.{option_map}
 use Rattle.std.proofs.lemmas.Bool.{cases_lt, eqb-true}
 use Rattle.mp_machine.specs.Lists.{IsIn}
 use Rattle.mp_model.specs.declared.histories.Opening.{Opening}
 use Rattle.mp_model.specs.declared.ids.TrxId.{TrxId}
 use Rattle.mp_model.specs.declared.ids.TrxName.{TrxName}
-use Rattle.mp_model.specs.declared.key_value.KeyValue.{KeyValue}
 use Rattle.mp_model.specs.declared.replies.Answer.{Answer}
 use Rattle.mp_model.specs.declared.replies.Reply.{Reply}
 use Rattle.mp_model.specs.declared.replies.Reply.TheVariants.{Began, Got, Scanned, Wrote, Committed, CommittedNone, Unknown, RolledBack, Conflict, Held, Full, Skipped, Stopped}
@@ -23,22 +21,19 @@ use Rattle.mp_script.specs.Seen.{acknowledgement}
 use Rattle.mp_script.specs.Spelling.{IsSpelled}
 use Rattle.mp_script.specs.Transactions.{trx_in_lines, trx_of, view_of, statements_before, acknowledged_cts, is_number}
 use Rattle.mp_script.specs.WentDown.{shows_down, is_stopped}
-use Rattle.mp_cells.specs.declared.records.Mtr.{Mtr}
 use Rattle.mp_cells.specs.declared.rows.Row.{Row}
 use Rattle.mp_core_trx.specs.declared.opening.TrxOpening.{TrxOpening}
 use Rattle.mp_core_trx.specs.declared.part.Draw.{Draw}
 use Rattle.mp_core_trx.specs.Parts.{draw_of, begun_of}
 use Rattle.mp_core_trx.specs.Events.{IsNode}
-use Rattle.mp_core_trx.specs.World.{drawn_in}
 use Rattle.mp_core_pages.specs.PageParts.{durable_llsn}
-use Rattle.mp_histories.specs.Chains.{row_of_key}
 use Rattle.mp_histories.specs.Histories.{entry_at}
 use Rattle.mp_histories.proofs.Writers.{decided}
 use Rattle.mp_core.specs.declared.opening.CoreOpening.{CoreOpening}
 use Rattle.mp_core.specs.CoreExtends.{durable_of}
 use Rattle.mp_core.specs.World.{CoreWorld, core_part}
 use Rattle.mp_core.specs.OwnMtrs.{row_put_by, row_restored_by, commit_by_mtr, TrxMtr}
-use Rattle.mp_facts.specs.Facts.{opening_pages, made_in, IsRecorded, IsForced}
+use Rattle.mp_facts.specs.Facts.{opening_pages, made_in, IsForced}
 use Rattle.mp_supports.specs.Work.{Work, name_of}
 use Rattle.mp_supports.specs.Supports.{Trace, commit_trace, IsTrxOf, RecordsCommit, SupportsReply}
 use Rattle.mp_supports.specs.Kept.{Entry}
@@ -47,11 +42,11 @@ use Rattle.mp_verdict.specs.Finished.{Finished}
 use Rattle.mp_verdict.specs.Told.{IsToldBy}
 use Rattle.mp_verdict.specs.Reads.{PutBelow, PutOf}
 use Rattle.mp_verdict.specs.LastValues.{CommitsAboveViews}
-use Rattle.mp_verdict.specs.Writers.{IsCopied, IsValueOf, IsWriter, IsAcknowledged, TellsOfWorld}
+use Rattle.mp_verdict.specs.Writers.{IsValueOf, IsWriter, TellsOfWorld}
 use Rattle.mp_verdict.proofs.Options.{some_is, not_some}
 use Rattle.mp_verdict.proofs.Ordered.{above_or}
 use Rattle.mp_verdict.proofs.OpeningRows.{opening_values}
-use Rattle.mp_verdict.proofs.PlacesOf.{put_of, of_its_node, in_its_node}
+use Rattle.mp_verdict.proofs.PlacesOf.{put_of, of_its_node}
 use Rattle.mp_verdict.proofs.OthersFit.{forced_drew}
 use Rattle.mp_verdict.proofs.ScriptLines.{line_is}
 use Rattle.mp_verdict.proofs.WhichTraces.{which_mtr}

@@ -1,6 +1,6 @@
 -- Looking an answer up in an execution finds the one that a primary kept; a transaction has one id, and the view that its
 -- `begin` was answered.
-use Rattle.std.proofs.Common.{◌≡◌, ◌≢◌, ◌⊎◌, ℕ, zero, suc, ◌+◌, ◌<◌, ◌≤◌, ◌==◌, ◌&&◌, Bool, true, false, cond, List, [], ◌∷◌, Option, Some, None, refl, sym, ap, subst, ◌∙◌, inl, inr, arith, eq-eqb}
+use Rattle.std.proofs.Common.{◌≡◌, ℕ, ◌<◌, ◌≤◌, ◌==◌, ◌&&◌, Bool, true, cond, List, [], ◌∷◌, Option, Some, None, refl, sym, ap, subst, ◌∙◌, inl, inr, arith, eq-eqb}
 use mathlib.Core.Bool.{false≢true}
 use Rattle.std.specs.Option.{option_map}
 use Rattle.std.specs.List.{AllByRecursion}
@@ -24,7 +24,7 @@ use Rattle.mp_script.specs.Execution.{Execution, line_at, stmt_in, stmt_at, answ
 use Rattle.mp_script.specs.Right.{WritesKey}
 use Rattle.mp_script.specs.SpelledLines.{IsLineInRange}
 use Rattle.mp_script.specs.Spelling.{IsSpelled}
-use Rattle.mp_script.specs.Transactions.{Target, target_of, target_key, begins, begin_in, trx_in_lines, view_in, view_of, is_wrote, wrote_at}
+use Rattle.mp_script.specs.Transactions.{Target, target_of, target_key, begins, trx_in_lines, view_in, view_of, is_wrote, wrote_at}
 use Rattle.mp_core_trx.specs.declared.part.Begun.{Begun}
 use Rattle.mp_core_trx.specs.Parts.{begun_of}
 use Rattle.mp_core_trx.specs.Events.{IsNode}
@@ -33,7 +33,7 @@ use Rattle.mp_histories.proofs.Writers.{decided}
 use Rattle.mp_core.specs.declared.opening.CoreOpening.{CoreOpening}
 use Rattle.mp_core.specs.World.{CoreWorld, core_part}
 use Rattle.mp_supports.specs.Work.{Work, name_of}
-use Rattle.mp_supports.specs.Supports.{IsTrxOf, Supports}
+use Rattle.mp_supports.specs.Supports.{Supports}
 use Rattle.mp_supports.specs.Kept.{Entry}
 use Rattle.mp_verdict.specs.Standing.{StandsAbove}
 use Rattle.mp_verdict.specs.Finished.{is_session_on, Finished}

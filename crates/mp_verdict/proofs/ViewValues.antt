@@ -1,17 +1,16 @@
 -- The rows of a view have at a key what the latest commit in it that wrote the key set, or the opening's value.
-use Rattle.std.proofs.Common.{◌≡◌, ◌⊎◌, ℕ, zero, suc, ◌+◌, ◌-◌, ◌<◌, ◌≤◌, List, [], ◌∷◌, ◌++◌, Option, Some, None, refl, sym, ap, subst, ◌∙◌, inl, inr, arith, append-nil}
+use Rattle.std.proofs.Common.{◌≡◌, ℕ, zero, suc, ◌+◌, ◌-◌, ◌≤◌, List, ◌++◌, Option, Some, None, refl, sym, ap, subst, ◌∙◌, inl, inr, arith, append-nil}
 use Rattle.std.specs.List.{flat_map}
 use Rattle.std.proofs.lemmas.Bool.{cases_lt}
 use Rattle.mp_model.specs.declared.histories.Commit.{Commit}
 use Rattle.mp_model.specs.declared.key_value.KeyValue.{KeyValue}
-use Rattle.mp_model.specs.declared.key_value.KeyWrite.{KeyWrite}
 use Rattle.mp_model.specs.declared.replies.Answer.{Answer}
-use Rattle.mp_model.specs.Folded.{over, before, value_at, writes_up_to}
+use Rattle.mp_model.specs.Folded.{over, before, value_at}
 use Rattle.mp_script.specs.Execution.{Execution}
 use Rattle.mp_script.specs.Transactions.{trx_of, view_of, statements_before}
-use Rattle.mp_script.specs.Seen.{own_writes, writes_among, acknowledgement, commit_by, history, rows_of_view}
+use Rattle.mp_script.specs.Seen.{writes_among, acknowledgement, commit_by, history}
 use Rattle.mp_script.proofs.Histories.{writes_shown, history_bound, history_later, history_next}
-use Rattle.mp_verdict.specs.LastValues.{last_value, value_over, first_writes, writes_acknowledged, writes_of_commit, NoCommitWrites, IsLatestWrite, IsValueInView, CommitsAboveViews}
+use Rattle.mp_verdict.specs.LastValues.{last_value, value_over, writes_acknowledged, writes_of_commit, NoCommitWrites, IsValueInView, CommitsAboveViews}
 use Rattle.mp_verdict.proofs.LastValues.{value_at-over}
 
 module _ (run : Execution) (above : CommitsAboveViews run) where

@@ -1,6 +1,5 @@
 -- Which answers begin a transaction, and which make an mtr: by the support of each reply.
-use Rattle.std.proofs.Common.{◌≡◌, ◌≢◌, ◌⊎◌, ℕ, ◌≤◌, true, false, List, [], ◌∷◌, Option, Some, None, refl, sym, ap, subst, ◌∙◌, inl, inr}
-use Rattle.mp_machine.specs.Lists.{IsIn}
+use Rattle.std.proofs.Common.{◌≡◌, ◌⊎◌, ℕ, ◌≤◌, Some, None, refl, sym, ap, subst, ◌∙◌, inl, inr}
 use Rattle.mp_model.specs.declared.ids.TrxId.{TrxId}
 use Rattle.mp_model.specs.declared.replies.Reply.{Reply}
 use Rattle.mp_model.specs.declared.replies.Reply.TheVariants.{Began, Got, Scanned, Wrote, Committed, CommittedNone, Unknown, RolledBack, Conflict, Held, Full, Skipped, Stopped}
@@ -15,7 +14,7 @@ use Rattle.mp_core.specs.declared.part.CorePart.{CorePart}
 use Rattle.mp_core.specs.OwnMtrs.{TrxMtr}
 use Rattle.mp_core.specs.CoreExtends.{durable_of}
 use Rattle.mp_supports.specs.Work.{Work, name_of}
-use Rattle.mp_supports.specs.Supports.{Trace, no_trace, looked_trace, began_trace, wrote_trace, commit_trace, IsTrxOf, Overwrites, RecordsCommit, SupportsTrxReply, StoppedWith, SupportsReply}
+use Rattle.mp_supports.specs.Supports.{Trace, no_trace, looked_trace, began_trace, wrote_trace, commit_trace, IsTrxOf, Overwrites, RecordsCommit, SupportsReply}
 use Rattle.mp_verdict.proofs.Options.{some_is, not_some}
 
 -- a reply that began a transaction

@@ -1,8 +1,7 @@
 -- The ok writes of a transaction before one of its answers are the puts of its id below what that answer rests on.
-use Rattle.std.proofs.Common.{if◌then◌else◌, ◌≡◌, ◌≢◌, ◌⊎◌, ℕ, zero, suc, ◌+◌, ◌-◌, ◌<◌, ◌≤◌, ◌==◌, ◌&&◌, Bool, true, false, cond, List, [], ◌∷◌, length, Option, Some, None, refl, sym, ap, subst, ◌∙◌, inl, inr, arith, eq-eqb}
+use Rattle.std.proofs.Common.{if◌then◌else◌, ◌≡◌, ◌≢◌, ℕ, suc, ◌+◌, ◌-◌, ◌<◌, ◌≤◌, ◌==◌, ◌&&◌, Bool, true, false, cond, List, [], ◌∷◌, Option, Some, None, refl, sym, ap, subst, ◌∙◌, inl, inr, arith, eq-eqb}
 use mathlib.Core.Bool.{false≢true}
 use Rattle.std.specs.Option.{IfSome, option_map}
-use Rattle.std.specs.List.{AllByRecursion}
 use Rattle.std.proofs.lemmas.Bool.{cases_lt, eqb-true, and_from, and_parts}
 use Rattle.mp_machine.specs.Lists.{IsIn}
 use Rattle.mp_model.specs.declared.histories.Opening.{Opening}
@@ -10,7 +9,7 @@ use Rattle.mp_model.specs.declared.ids.TrxId.{TrxId}
 use Rattle.mp_model.specs.declared.ids.TrxName.{TrxName}
 use Rattle.mp_model.specs.declared.replies.Answer.{Answer}
 use Rattle.mp_model.specs.declared.replies.Reply.{Reply}
-use Rattle.mp_model.specs.declared.replies.Reply.TheVariants.{Wrote, Stopped}
+use Rattle.mp_model.specs.declared.replies.Reply.TheVariants.{Wrote}
 use Rattle.mp_model.specs.declared.replies.WriteVerb.{WriteVerb}
 use Rattle.mp_model.specs.declared.transcripts.Down.{Down}
 use Rattle.mp_script.specs.declared.statements.Line.{Line}
@@ -18,10 +17,9 @@ use Rattle.mp_script.specs.declared.statements.Script.{Script}
 use Rattle.mp_script.specs.declared.statements.Stmt.{Stmt}
 use Rattle.mp_script.specs.declared.statements.Stmt.TheVariants.{Begin, Get, Put, Del, Copy, Scan, Commit, Rollback}
 use Rattle.mp_script.specs.Execution.{Execution, line_at, stmt_in, stmt_at}
-use Rattle.mp_script.specs.Right.{WritesKey}
 use Rattle.mp_script.specs.Spelling.{IsSpelled}
 use Rattle.mp_script.specs.SpelledLines.{HaveTheirBegin}
-use Rattle.mp_script.specs.Transactions.{target_of, target_key, begins, begin_in, trx_in_lines, statements_before, view_of, wrote_at}
+use Rattle.mp_script.specs.Transactions.{target_of, target_key, begins, begin_in, trx_in_lines, statements_before, wrote_at}
 use Rattle.mp_script.specs.WentDown.{shows_down, is_stopped}
 use Rattle.mp_cells.specs.declared.rows.Row.{Row}
 use Rattle.mp_cells.specs.Writes.{version_of}
@@ -34,23 +32,22 @@ use Rattle.mp_histories.proofs.Writers.{decided}
 use Rattle.mp_core.specs.declared.opening.CoreOpening.{CoreOpening}
 use Rattle.mp_core.specs.World.{CoreWorld, core_part}
 use Rattle.mp_core.specs.OwnMtrs.{row_put_by, commit_by_mtr, TrxMtr}
-use Rattle.mp_facts.specs.Facts.{made_in}
 use Rattle.mp_supports.specs.Work.{Work, name_of}
-use Rattle.mp_supports.specs.Supports.{Trace, wrote_trace, IsTrxOf, IsValueWritten, Overwrites, SupportsReply, Supports}
-use Rattle.mp_supports.specs.Kept.{Entry, Precedes}
+use Rattle.mp_supports.specs.Supports.{Trace, IsTrxOf, IsValueWritten, Overwrites, SupportsReply}
+use Rattle.mp_supports.specs.Kept.{Entry}
 use Rattle.mp_verdict.specs.Standing.{StandsAbove}
 use Rattle.mp_verdict.specs.Finished.{Finished}
 use Rattle.mp_verdict.specs.Told.{IsToldBy}
 use Rattle.mp_verdict.specs.Reads.{PutBelow, PutOf, ShowsReader}
-use Rattle.mp_verdict.specs.Writers.{WroteKey, LiesBetween, IsCopied, IsValueOf, IsWriter}
+use Rattle.mp_verdict.specs.Writers.{WroteKey, LiesBetween, IsValueOf, IsWriter}
 use Rattle.mp_verdict.proofs.Options.{some_is, not_some}
-use Rattle.mp_verdict.proofs.Ordered.{above_or, above_in, all_in}
+use Rattle.mp_verdict.proofs.Ordered.{above_or, all_in}
 use Rattle.mp_verdict.proofs.PlacesOf.{put_of}
 use Rattle.mp_verdict.proofs.Reading.{read_shows}
 use Rattle.mp_verdict.proofs.ScriptLines.{line_is, begin_between, begin_upto, have_begins}
 use Rattle.mp_verdict.proofs.WhichTraces.{IsPutBy, which_mtr}
 use Rattle.mp_verdict.proofs.KeptOrder.{answer_of, entry_of_mtr, mtrs_up, precedes_of, index_up, stopped_below}
-use Rattle.mp_verdict.proofs.ToldAnswers.{target_same, IsKeptBy, supported, kept_answer, in_run, same_node, above_by_index, one_entry, stmt_here, wrote_there, IsWroteAt, wrote_is, one_trx, view_is}
+use Rattle.mp_verdict.proofs.ToldAnswers.{target_same, IsKeptBy, supported, kept_answer, in_run, same_node, above_by_index, one_entry, stmt_here, wrote_there, wrote_is, one_trx, view_is}
 
 -- ---- the entry that answers a statement
 

@@ -1,13 +1,11 @@
 -- A run that has come to its end: what its primaries kept, over the parts of one world.
-use Rattle.std.specs.Prelude.{◌≡◌, ◌≢◌, ℕ, zero, suc, ◌+◌, ◌==◌, ◌&&◌, if◌then◌else◌, Bool, true, false, List, [], ◌∷◌, ◌++◌, length, Option, Some, None, is_some}
+use Rattle.std.specs.Prelude.{◌≡◌, ◌≢◌, ℕ, zero, suc, ◌+◌, ◌==◌, ◌&&◌, if◌then◌else◌, Bool, true, false, List, [], ◌∷◌, ◌++◌, length, Some, is_some}
 use Rattle.std.specs.List.{flat_map, list_any, AllByRecursion}
 use Rattle.mp_model.specs.declared.histories.Opening.{Opening}
 use Rattle.mp_model.specs.declared.ids.TrxName.{TrxName}
-use Rattle.mp_model.specs.declared.key_value.KeyValue.{KeyValue}
 use Rattle.mp_model.specs.declared.replies.Answer.{Answer}
 use Rattle.mp_model.specs.declared.replies.Reply.{Reply}
-use Rattle.mp_model.specs.declared.replies.Reply.TheVariants.{Committed, CommittedNone, Unknown, Conflict, Held}
-use Rattle.mp_model.specs.declared.replies.WriteVerb.{WriteVerb}
+use Rattle.mp_model.specs.declared.replies.Reply.TheVariants.{CommittedNone, Held}
 use Rattle.mp_model.specs.declared.transcripts.Down.{Down}
 use Rattle.mp_model.specs.declared.transcripts.Mode.TheVariants.{Run}
 use Rattle.mp_script.specs.declared.statements.Script.{Script}
@@ -89,14 +87,6 @@ abbrev pub down_lines : (ℕ → ℕ) → ℕ → ℕ → List Down
 down_lines down first zero = []
 down_lines down first (suc count) = if down first == 0 then down_lines down (first + 1) count else record { primary = first; by = down first } ∷ down_lines down (first + 1) count
 
--- a primary with a commit of unknown end went down by its own log
-abbrev pub FailedItself : ℕ → ℕ → Answer → Type 0
-FailedItself n number answer = (cts : ℕ) → answer.reply ≡ Unknown cts → number ≡ n
-
--- a write was refused for a commit of another session
-abbrev pub IsOthersCommit : Answer → Answer → Type 0
-IsOthersCommit refused committed = (verb : WriteVerb) (cts : ℕ) → refused.reply ≡ Conflict verb cts → committed.reply ≡ Committed cts → committed.session ≢ refused.session
-
 -- A RUN HAS COME TO ITS END: what each primary kept agrees with its part of one world that can be reached, each statement is
 -- answered, and each primary that is down went down with one whose log failed, itself down
 pub record Finished (work : Work) (script : Script) (opening : Opening) (o : CoreOpening) (w : CoreWorld) (down : ℕ → ℕ) (entries : ℕ → List Entry) (downs : List Down) : Type 0 where
@@ -108,7 +98,5 @@ pub record Finished (work : Work) (script : Script) (opening : Opening) (o : Cor
   pub in_order : (n : ℕ) → IsNode o.trx n → EachBelow (IsAnsweredNext work n) [] (answers_in (entries n))
   pub all : (n : ℕ) → IsNode o.trx n → AllByRecursion (λ e. is_some e.answer ≡ true) (entries n)
   pub none_left : (n session : ℕ) → IsNode o.trx n → is_session_on work.sessions session n ≡ true → answered session (answers_in (entries n)) ≡ stated session work.lines
-  pub own_log : (n : ℕ) → IsNode o.trx n → AllByRecursion (FailedItself n (down n)) (answers_in (entries n))
-  pub others : (n : ℕ) → IsNode o.trx n → AllByRecursion (λ refused. AllByRecursion (IsOthersCommit refused) (answers_in (entries n))) (answers_in (entries n))
   pub cause : (n : ℕ) → IsNode o.trx n → down n ≢ 0 → IsNode o.trx (down n) × (down (down n) ≡ down n)
   pub downs_are : downs ≡ down_lines down 1 o.trx.primaries

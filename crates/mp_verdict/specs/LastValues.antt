@@ -1,5 +1,5 @@
 -- The value of a key after writes, and after the commits that a view shows.
-use Rattle.std.specs.Prelude.{◌≡◌, ℕ, ◌+◌, ◌==◌, ◌<◌, ◌≤◌, ◌⊎◌, if◌then◌else◌, List, [], ◌∷◌, Option, Some, None}
+use Rattle.std.specs.Prelude.{◌≡◌, ℕ, ◌==◌, ◌<◌, ◌≤◌, ◌⊎◌, if◌then◌else◌, List, [], ◌∷◌, Option, Some, None}
 use Rattle.mp_model.specs.Folded.{value_at}
 use Rattle.mp_model.specs.declared.key_value.KeyWrite.{KeyWrite}
 use Rattle.mp_model.specs.declared.ids.TrxName.{TrxName}

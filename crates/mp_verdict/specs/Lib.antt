@@ -7,4 +7,3 @@ pub mod Writers
 pub mod Standing
 pub mod Told
 pub mod Counting
-pub mod Fullness

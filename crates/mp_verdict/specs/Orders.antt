@@ -1,6 +1,6 @@
 -- How the answers of primaries are put together in a transcript: in mode Step in the order in which they were given, in
 -- mode Run by primaries.
-use Rattle.std.specs.Prelude.{◌≡◌, ℕ, ◌==◌, List, [], ◌∷◌, map, filter, length, Option, Some, None}
+use Rattle.std.specs.Prelude.{◌≡◌, ℕ, ◌==◌, List, [], ◌∷◌, map, filter, length}
 use Rattle.std.specs.List.{filter_map, AllByRecursion}
 use Rattle.mp_model.specs.Folded.{AscendsFrom}
 use Rattle.mp_model.specs.declared.histories.Opening.{Opening}

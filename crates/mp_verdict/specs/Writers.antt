@@ -1,6 +1,5 @@
 -- How the transactions of an execution stand to those of a world: each ok write of one is a put of the other.
 use Rattle.std.specs.Prelude.{◌≡◌, ℕ, suc, ◌+◌, ◌<◌, ◌≤◌, List, Option, Some, None, length}
-use Rattle.mp_machine.specs.Lists.{IsIn}
 use Rattle.mp_model.specs.Folded.{value_at}
 use Rattle.mp_model.specs.declared.ids.TrxId.{TrxId}
 use Rattle.mp_model.specs.declared.ids.TrxName.{TrxName}

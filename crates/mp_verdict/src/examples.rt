@@ -2,7 +2,7 @@
 ghost use Rattle.std.specs.Prelude.{◌≡◌, ℕ, ◌==◌, if◌then◌else◌, true, false, List, [], ◌∷◌, Some, None};
 ghost use Rattle.mp_model.specs.declared.ids.TrxName.{TrxName};
 ghost use Rattle.mp_model.specs.declared.replies.Answer.{Answer};
-ghost use Rattle.mp_model.specs.declared.replies.Reply.TheVariants.{Held, Unknown, Wrote};
+ghost use Rattle.mp_model.specs.declared.replies.Reply.TheVariants.{Held, Wrote};
 ghost use Rattle.mp_model.specs.declared.replies.WriteVerb.TheVariants as verb;
 ghost use Rattle.mp_model.specs.declared.ids.TrxId.{TrxId};
 ghost use Rattle.mp_model.specs.declared.histories.Opening.{Opening};
@@ -18,7 +18,7 @@ ghost use Rattle.mp_verdict.specs.Counting.{AreApartAnswers};
 ghost use Rattle.mp_verdict.specs.LastValues.{last_value, value_over};
 ghost use Rattle.mp_verdict.specs.Reads.{LastPutBelow, PutsNothingBelow};
 ghost use Rattle.mp_verdict.specs.Standing.{StandsAbove};
-ghost use Rattle.mp_verdict.specs.Finished.{is_session_on, names_of, FailedItself, down_lines, Finished};
+ghost use Rattle.mp_verdict.specs.Finished.{is_session_on, names_of, down_lines, Finished};
 ghost use Rattle.mp_verdict.specs.Orders.{NodeEntry, IsMerged, StepOrder, IsWholePart};
 
 /// Before any step no transaction has put a row. A `down` line stands for each primary that is down, in their order; a run
@@ -38,8 +38,7 @@ pub fn law_order_examples()
 
 /// The last write of a key sets its value, also none; where none is of the key, the value before stands. The first of two
 /// items stands above the second, and not below it. A session is on the primary that it is declared on. A held write names
-/// its holder, and a statement its waits. A statement isn't answered twice. A commit of unknown end fits a primary that went
-/// down by its own log alone.
+/// its holder, and a statement its waits. A statement isn't answered twice.
 pub fn law_word_examples()
     ensures sets_none { last_value 7 (record { key = 7; value = Some (65 ∷ []) } ∷ record { key = 7; value = None } ∷ []) ≡ Some None }
     ensures other_key { last_value 7 (record { key = 8; value = Some (65 ∷ []) } ∷ []) ≡ None }
@@ -52,6 +51,4 @@ pub fn law_word_examples()
     ensures names { names_of (record { session = 1; index = 2; reply = Held verb.Put (record { session = 2; first = 1 }); waits = record { items = record { session = 3; first = 1 } ∷ []; spare = 0 } }) ≡ record { session = 2; first = 1 } ∷ record { session = 3; first = 1 } ∷ [] }
     ensures apart { AreApartAnswers (record { session = 1; index = 1; reply = Wrote verb.Put; waits = record { items = []; spare = 0 } } ∷ record { session = 1; index = 2; reply = Wrote verb.Put; waits = record { items = []; spare = 0 } } ∷ []) }
     ensures twice { (a : Answer) → AreApartAnswers (a ∷ a ∷ []) → ⊥ }
-    ensures itself { FailedItself 2 2 (record { session = 1; index = 1; reply = Unknown 9; waits = record { items = []; spare = 0 } }) }
-    ensures by_another { FailedItself 2 3 (record { session = 1; index = 1; reply = Unknown 9; waits = record { items = []; spare = 0 } }) → ⊥ }
 {}

@@ -1,5 +1,4 @@
-use Rattle.std.proofs.Common.{refl, sym, arith, ◌≡◌, [], ◌∷◌}
-use Rattle.mp_supports.specs.Kept.{Entry}
+use Rattle.std.proofs.Common.{refl, arith, ◌≡◌, [], ◌∷◌}
 use Rattle.mp_verdict.proofs.SmallOrders.{no_line}
 use Rattle.mp_verdict.proofs.examples.law_order_examples.Goals as goal
 

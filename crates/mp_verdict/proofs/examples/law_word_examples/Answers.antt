@@ -1,4 +1,4 @@
-use Rattle.std.proofs.Common.{◌≡◌, ◌⊎◌, ℕ, refl, sym, ap, inl, inr, arith}
+use Rattle.std.proofs.Common.{◌≡◌, refl, ap, inl, inr, arith}
 use Rattle.mp_verdict.proofs.examples.law_word_examples.Goals as goal
 
 pub returns-clause-sets_none : goal.returns-clause-sets_none
@@ -43,9 +43,3 @@ returns-clause-apart c = (
 
 pub returns-clause-twice : goal.returns-clause-twice
 returns-clause-twice c = λ a h. h.0 a (inl refl) refl refl
-
-pub returns-clause-itself : goal.returns-clause-itself
-returns-clause-itself c = λ cts is. refl
-
-pub returns-clause-by_another : goal.returns-clause-by_another
-returns-clause-by_another c = λ h. let wrong : 3 ≡ 2 = h 9 refl in absurd (omega (arith, wrong))
