@@ -38,6 +38,7 @@ nothing_to_redo base pages clean = record {
     ahead = λ above. absurd (omega (arith, above, clean.llsns n lt));
     changes = tt;
   };
+  once = tt;
   tree = clean.tree;
   chains = λ key lt. row_alone base pages clean key;
 }

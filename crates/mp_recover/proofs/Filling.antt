@@ -131,10 +131,10 @@ module _ {D : Type 0} (g : Ghosts D) where
         | inr apart ↦ below k lane (cutting k place lt apart) (sym (filled.others k apart) ∙ is) none
       ]
 
-      pub filled_refuses : (refusal : LogRefusal) → result ≡ Err refusal → MergeRefuses files (refused_as (place + 1) refusal)
-      filled_refuses (refusals.Fault fault) err = (place, refl, (subst (LaneFills (files place) (lefts place) (fault_at files place) filled.new) err fills_here).1)
-      filled_refuses refusals.Disk err = tt
-      filled_refuses refusals.Memory err = tt
+      pub filled_refuses : place < 8 → (refusal : LogRefusal) → result ≡ Err refusal → MergeRefuses files (refused_as (place + 1) refusal)
+      filled_refuses lt (refusals.Fault fault) err = (place, lt, refl, (subst (LaneFills (files place) (lefts place) (fault_at files place) filled.new) err fills_here).1)
+      filled_refuses lt refusals.Disk err = tt
+      filled_refuses lt refusals.Memory err = tt
 
     pub filled_goes : result ≡ Ok tt → EachLane LaneGoes lanes → EachLane LaneGoes lanes_after
     filled_goes ok goes = each_on (λ k lane. LaneGoes lane) lanes lanes_after place filled.others goes

@@ -107,7 +107,7 @@ flat_shift f [] = refl
 flat_shift f (k ∷ ks) = ap (λ (ys : List Mtr). f (k + 1) ++ ys) (flat_shift f ks)
 
 module _ {D : Type 0} (g : Ghosts D) where
-  seen_is : (logs : List D) (k : ℕ) → get_or (map g.seen logs) k [] ≡ seen_at g logs k
+  pub seen_is : (logs : List D) (k : ℕ) → get_or (map g.seen logs) k [] ≡ seen_at g logs k
   seen_is logs k = elim (slice_get_cases logs k).1 [
     | inl found ↦
         get_or_from_slice_get (map g.seen logs) k (g.seen found.0) [] (slice_get-map g.seen logs k ∙ ap (λ x. option_map g.seen x) found.2) ∙ sym (ap (seen_of g) found.2)

@@ -11,3 +11,12 @@ pub mod GivenRises
 pub mod OnlyRedone
 pub mod RedoneAbove
 pub mod ReadingLogs
+pub mod SettledPages
+pub mod SettledChains
+pub mod SettledTree
+pub mod FoundMore
+pub mod LastWrites
+pub mod LastCommits
+pub mod PutKeys
+pub mod RecoveredRows
+pub mod SettledAll

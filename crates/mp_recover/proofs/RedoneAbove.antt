@@ -68,7 +68,7 @@ module _ {D : Type 0} (g : Ghosts D) where
   -- a disk that failed now failed in all
   pub cause_later : (old mid new : List D) (refusal : RecoverRefusal) → KeptLogs g old mid → MergeCause g mid new refusal → RedoCause g old new refusal
   cause_later old mid new (recover.Store place) kept h = tt
-  cause_later old mid new recover.StoreDisk kept h = tt
+  cause_later old mid new recover.StoreDisk kept h = h
   cause_later old mid new (recover.Log primary place) kept h = tt
   cause_later old mid new (recover.LogDisk primary) kept h =
       RoseOf-later g primary old mid new kept.count (λ place before after was now. KeptDisk-still g before after (kept.each place before after was now)) h
@@ -76,6 +76,17 @@ module _ {D : Type 0} (g : Ghosts D) where
   cause_later old mid new (recover.NotApplicable page llsn) kept h = tt
   cause_later old mid new (recover.Spent last) kept h = tt
   cause_later old mid new recover.Memory kept h = tt
+
+  -- no disk is at fault where a record can't be redone
+  pub one_cause : (old new : List D) (base : ℕ) (mtr : Mtr) (pages after : PageMap) (ids ids_after : List CommitId) (refusal : RecoverRefusal) → RedoesOne base mtr pages after ids ids_after (Err refusal) → RedoCause g old new refusal
+  one_cause old new base mtr pages after ids ids_after (recover.Store place) h = tt
+  one_cause old new base mtr pages after ids ids_after recover.StoreDisk h = h
+  one_cause old new base mtr pages after ids ids_after (recover.Log primary place) h = tt
+  one_cause old new base mtr pages after ids ids_after (recover.LogDisk primary) h = absurd h
+  one_cause old new base mtr pages after ids ids_after (recover.Gap page wanted found) h = tt
+  one_cause old new base mtr pages after ids ids_after (recover.NotApplicable page llsn) h = tt
+  one_cause old new base mtr pages after ids ids_after (recover.Spent last) h = tt
+  one_cause old new base mtr pages after ids ids_after recover.Memory h = tt
 
 -- what is left, after one mtr more
 pub left_after : (base : ℕ) (mtr : Mtr) (rest : List Mtr) (pages new : PageMap) (ids ids_after all_ids : List CommitId) (all : PageMap × Option RecoverRefusal)

@@ -1,6 +1,6 @@
 -- The commits that some mtrs keep, and rows with commits folded in.
-use Rattle.std.specs.Prelude.{ℕ, ◌==◌, List, [], ◌∷◌, map, filter, Option, Some, None, if◌then◌else◌}
-use Rattle.std.specs.List.{flat_map}
+use Rattle.std.specs.Prelude.{◌≢◌, ℕ, ◌==◌, List, [], ◌∷◌, map, filter, Option, Some, None, if◌then◌else◌}
+use Rattle.std.specs.List.{flat_map, AllByRecursion}
 use Rattle.mp_model.specs.declared.ids.TrxId.{TrxId}
 use Rattle.mp_model.specs.declared.key_value.KeyValue.{KeyValue}
 use Rattle.mp_model.specs.declared.key_value.KeyWrite.{KeyWrite}
@@ -32,6 +32,11 @@ kept_from all mtrs =
 
 abbrev pub kept_commits : List Mtr → List KeptCommit
 kept_commits mtrs = kept_from mtrs mtrs
+
+-- each transaction commits once
+abbrev pub CommitsOnce : List KeptCommit → Type 0
+CommitsOnce [] = Unit {0}
+CommitsOnce (k ∷ commits) = AllByRecursion (λ other. k.id ≢ other.id) commits × CommitsOnce commits
 
 -- who committed, and at which timestamp
 abbrev pub stamps_of : List KeptCommit → List Stamp

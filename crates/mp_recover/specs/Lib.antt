@@ -2,8 +2,10 @@ pub mod PageRecords
 pub mod KeptCommits
 pub mod Standing
 pub mod Settled
+pub mod Settling
 pub mod Images
 pub mod Merging
 pub mod Redoing
+pub mod Finding
 pub mod ReadingLogs
 pub mod SmallLogs

@@ -90,7 +90,7 @@ refused_as primary refusals.Memory = recover.Memory
 
 -- the log of a primary is off the grammar, first at this place
 abbrev pub IsOffAt : (ℕ → List ℕ) → ℕ → ℕ → Type 0
-IsOffAt files primary fault = (place : ℕ) × (primary ≡ place + 1) × (fault_at files place ≡ Some fault)
+IsOffAt files primary fault = (place : ℕ) × (place < 8) × (primary ≡ place + 1) × (fault_at files place ≡ Some fault)
 
 -- a merge refuses for a log that is off the grammar, for a disk, or for want of memory
 abbrev pub MergeRefuses : (ℕ → List ℕ) → RecoverRefusal → Type 0
@@ -99,9 +99,10 @@ MergeRefuses files (recover.LogDisk primary) = Unit {0}
 MergeRefuses files recover.Memory = Unit {0}
 MergeRefuses files _ = ⊥
 
--- what redoing the logs refuses has its cause: for a disk its count of faults rose
+-- what redoing the logs refuses has its cause: for a log's disk its count of faults rose, and the store's isn't used
 abbrev pub RedoCause : {D : Type 0} → Ghosts D → List D → List D → RecoverRefusal → Type 0
 RedoCause g old new (recover.LogDisk primary) = RoseOf g primary old new
+RedoCause g old new recover.StoreDisk = ⊥
 RedoCause g old new _ = Unit {0}
 
 -- for a disk it refuses only where that disk's count of faults rose

@@ -1,7 +1,6 @@
 -- What redoing mtrs makes of pages, and which record it can't redo.
 use Rattle.std.specs.Prelude.{◌≡◌, ℕ, ◌<◌, ◌==◌, nat_lt, List, [], ◌∷◌, ◌++◌, filter, Option, Some, None, Result, Ok, Err, if◌then◌else◌}
 use Rattle.std.specs.List.{flat_map}
-use Rattle.mp_model.specs.Listed.{Listed}
 use Rattle.mp_cells.specs.declared.changes.Change.{Change}
 use Rattle.mp_cells.specs.declared.records.Record.{Record}
 use Rattle.mp_cells.specs.declared.records.Record.TheVariants as records
@@ -13,6 +12,7 @@ use Rattle.mp_cells.specs.Plans.{with_page}
 use Rattle.mp_recover.specs.declared.refusals.RecoverRefusal.{RecoverRefusal}
 use Rattle.mp_recover.specs.declared.refusals.RecoverRefusal.TheVariants.{Log, LogDisk, Gap, NotApplicable, Memory}
 use Rattle.mp_recover.specs.declared.commits.CommitId.{CommitId}
+use Rattle.mp_recover.specs.declared.found.Found.{Found}
 use Rattle.mp_recover.specs.Merging.{IsOffAt}
 
 -- the refusal of a result
@@ -90,10 +90,10 @@ RedoesOne base mtr old new ids ids_after (Err Memory) = Unit {0}
 RedoesOne base mtr old new ids ids_after (Err _) = ⊥
 
 -- what redoing all mtrs of logs above a base makes of pages, and which commits it finds
-abbrev pub RedoesAll : (ℕ → List ℕ) → ℕ → List Mtr → PageMap → PageMap → Result (Listed CommitId) RecoverRefusal
+abbrev pub RedoesAll : (ℕ → List ℕ) → ℕ → List Mtr → PageMap → PageMap → Result Found RecoverRefusal
     → Type 0
-RedoesAll files base mtrs old new (Ok ids) = (mtrs_redone (mtrs_above base mtrs) old ≡ (new, None))
-    × (ids.items ≡ ids_in (mtrs_above base mtrs))
+RedoesAll files base mtrs old new (Ok found) = (mtrs_redone (mtrs_above base mtrs) old ≡ (new, None))
+    × (found.ids.items ≡ ids_in (mtrs_above base mtrs))
 RedoesAll files base mtrs old new (Err (Gap page wanted found)) = mtrs_redone (mtrs_above base mtrs) old
     ≡ (new, Some (Gap page wanted found))
 RedoesAll files base mtrs old new (Err (NotApplicable page llsn)) = mtrs_redone (mtrs_above base mtrs) old

@@ -8,7 +8,7 @@ use Rattle.mp_cells.specs.Writes.{undo_at}
 use Rattle.mp_histories.specs.Commits.{HasStamp, StandsFor}
 use Rattle.mp_histories.specs.Chains.{row_over, IsChain, row_of_key}
 use Rattle.mp_recover.specs.PageRecords.{InOrder, pages_redone}
-use Rattle.mp_recover.specs.KeptCommits.{KeptCommit, kept_commits, stamps_of, wrote_to}
+use Rattle.mp_recover.specs.KeptCommits.{KeptCommit, CommitsOnce, kept_commits, stamps_of, wrote_to}
 
 -- the chain of a key, from its row down to a last version, is of that key alone and stands for the commits
 pub record ChainStands (commits : List KeptCommit) (pages : PageMap) (key : ℕ) (last : Row) : Type 0 where
@@ -22,8 +22,10 @@ pub record ChainStands (commits : List KeptCommit) (pages : PageMap) (key : ℕ)
 abbrev pub ChainsStand : List KeptCommit → PageMap → (ℕ → Row) → Type 0
 ChainsStand commits pages last = (key : ℕ) → key < top → ChainStands commits pages key (last key)
 
--- mtrs above a base can be redone over stored pages, and leave a tree whose chains stand for the commits among them
+-- mtrs above a base can be redone over stored pages, and leave a tree whose chains stand for the commits among them, of
+-- which no transaction has two
 pub record IsRecoverable (base : ℕ) (last : ℕ → Row) (stored : PageMap) (mtrs : List Mtr) : Type 0 where
   pub in_order : InOrder base stored mtrs
+  pub once : CommitsOnce (kept_commits mtrs)
   pub tree : IsTree (pages_redone stored mtrs) (height_of (pages_redone stored mtrs))
   pub chains : ChainsStand (kept_commits mtrs) (pages_redone stored mtrs) last

@@ -9,7 +9,7 @@ ghost use Rattle.mp_histories.specs.Chains.{row_of_key};
 ghost use Rattle.mp_histories.specs.Histories.{pages_after};
 ghost use Rattle.mp_histories.specs.SmallHistory.{small_trx, small_row, small_put, small_restore};
 ghost use Rattle.mp_recover.specs.PageRecords.{by_log_place, page_list, not_yet, InOrder};
-ghost use Rattle.mp_recover.specs.KeptCommits.{kept_commits, present, folded_in};
+ghost use Rattle.mp_recover.specs.KeptCommits.{CommitsOnce, kept_commits, present, folded_in};
 ghost use Rattle.mp_recover.specs.Standing.{ChainStands, IsRecoverable};
 ghost use Rattle.mp_recover.specs.Images.{CleanImage, SoundImage, logged_above, rows_of_image};
 ghost use Rattle.mp_recover.specs.SmallLogs.{small_commit, stray_commit, small_image, rolled_back};
@@ -28,7 +28,7 @@ pub fn law_order_examples()
     ensures bad { InOrder 0 fresh_map (small_restore ∷ []) → ⊥ }
 {}
 
-/// A commit record keeps the rows that its transaction put in its own log, and no others. Of two commits of a key the
+/// A commit record keeps the rows that its transaction put in its own log, and no others. No transaction has two. Of two commits of a key the
 /// one with the greater timestamp counts, in whatever order they come.
 pub fn law_kept_examples()
     ensures kept { kept_commits (small_put ∷ small_commit ∷ [])
@@ -36,6 +36,8 @@ pub fn law_kept_examples()
     ensures stray { kept_commits (small_put ∷ stray_commit ∷ [])
         ≡ record { id = small_trx 0; cts = 9; puts = [] } ∷ [] }
     ensures open { kept_commits (small_put ∷ []) ≡ [] }
+    ensures once { CommitsOnce (kept_commits (small_put ∷ small_commit ∷ [])) }
+    ensures twice { CommitsOnce (kept_commits (small_commit ∷ stray_commit ∷ [])) → ⊥ }
     ensures deletes { folded_in (record { key = 7; value = 65 ∷ [] } ∷ []) (kept_commits (small_put ∷ small_commit ∷ [])) ≡ [] }
     ensures keeps { folded_in (record { key = 7; value = 65 ∷ [] } ∷ []) (kept_commits (small_put ∷ []))
         ≡ record { key = 7; value = 65 ∷ [] } ∷ [] }

@@ -31,7 +31,7 @@ returns-in-Err-clause-fills g c =
     let filled = filled_at d place (Err c.in-Err.refusal) c.loop-place.lanes.items c.fill_at.new.lanes.items c.loop-place.logs.items c.fill_at.new.logs.items
     (omega (arith, inv.0, c.loop-place-test.true)) (omega (arith, inv.1.count, c.requires.logs, c.loop-place-test.true)) e.lanes e.logs e.others e.other_logs e.did in
     λ lefts tell left. subst (MergeRefuses (seen_at d old)) (sym c.refused_as.ensures)
-    (filled_refuses d place _ _ _ _ _ filled (seen_at d old) lefts (seen_same d old c.loop-place.logs.items inv.1) (tells_same d old c.loop-place.logs.items inv.1 tell) (inv.4 lefts tell left).0 c.in-Err.refusal refl)
+    (filled_refuses d place _ _ _ _ _ filled (seen_at d old) lefts (seen_same d old c.loop-place.logs.items inv.1) (tells_same d old c.loop-place.logs.items inv.1 tell) (inv.4 lefts tell left).0 (omega (arith, c.loop-place-test.true)) c.in-Err.refusal refl)
 
 pub returns-in-Err-clause-sound : goal.returns-in-Err-clause-sound
 returns-in-Err-clause-sound g c =
