@@ -20,8 +20,9 @@ use Rattle.mp_core.specs.declared.event.CoreEvent.TheVariants.{Trx}
 use Rattle.mp_core.specs.declared.part.CorePart.{CorePart}
 use Rattle.mp_core.specs.Contents.{page_ops, contents_of}
 use Rattle.mp_core.specs.MtrKinds.{MayLog}
-use Rattle.mp_core.specs.World.{core_part}
-use Rattle.mp_facts.specs.SmallRuns.{three_pages, world_after, MayAllCome, comes_to_write, puts_row, puts_back, hands_leaf_over}
+use Rattle.mp_core.specs.World.{core_part, core}
+use Rattle.mp_machine.specs.Machine.{AllowedFrom}
+use Rattle.mp_facts.specs.SmallRuns.{three_pages, world_after, MayAllCome, comes_to_write, puts_row, then_puts_back, then_hands_over, puts_back, hands_leaf_over}
 use Rattle.mp_facts.proofs.SmallRestore.{restore_well}
 
 pub writes : Write ≡ No → ⊥
@@ -134,8 +135,9 @@ owner_gone false id is = absurd cc
 begins : MayStoreActive ((world_after []).trx.part 1) 1 (small_trx 0)
 begins = record { own = refl; above = lit< tt; within = lit≤ tt; fresh = λ b has. absurd has; in_range = lit< tt; usable = refl }
 
-pub rolled_back : MayAllCome puts_back
-rolled_back = (
+-- the steps up to the put may come, and then any that may come behind it
+puts_row_then : (later : List CoreEvent) → AllowedFrom (core three_pages) (world_after puts_row) later → MayAllCome (puts_row ++ later)
+puts_row_then later rest = (
   ([], (((one, begins), tt), tt)),
   (
     ([], ((one, (lit< tt, inr (inl refl, refl)), tt), tt)),
@@ -157,10 +159,7 @@ rolled_back = (
                     (_, ((one, record { in_range = lit< tt; has_lock = writes; gives_back = inl refl }, tt), refl)),
                     (
                       ([], ((one, put_made, put_logged), tt)),
-                      (
-                        ([], ((one, restore_made, restore_logged), tt)),
-                        (([], (((one, (((0, inl refl), inl refl), λ cts drew. drew)), λ key is. owner_gone (7 == key) (small_trx 0) is), tt)), tt),
-                      ),
+                      rest,
                     ),
                   ),
                 ),
@@ -173,51 +172,24 @@ rolled_back = (
   ),
 )
 
+pub rolled_back : MayAllCome puts_back
+rolled_back = puts_row_then then_puts_back (
+  ([], ((one, restore_made, restore_logged), tt)),
+  (([], (((one, (((0, inl refl), inl refl), λ cts drew. drew)), λ key is. owner_gone (7 == key) (small_trx 0) is), tt)), tt),
+)
+
 pub handed_over : MayAllCome hands_leaf_over
-handed_over = (
-  ([], (((one, begins), tt), tt)),
+handed_over = puts_row_then then_hands_over (
+  ([], ((one, (lit≤ tt, lit≤ tt), tt), tt)),
   (
-    ([], ((one, (lit< tt, inr (inl refl, refl)), tt), tt)),
+    ([], ((one, (lit< tt, writes), tt), tt)),
     (
-      ([], ((one, (lit< tt, writes), tt), tt)),
+      (_, ((one, record { in_range = lit< tt; has_lock = writes; gives_back = inr record { took = (_, refl); writes = refl; has = refl; durable = lit≤ tt } }, tt), refl)),
       (
-        (_, ((one, record { in_range = lit< tt; has_lock = writes; gives_back = inl refl }, tt), refl)),
+        ([], ((one, record { in_range = lit< tt; has_lock = writes; home = refl; released = (lit≤ tt, lit≤ tt) }, tt), tt)),
         (
-          ([], ((one, (lit< tt, inr (inl refl, refl)), tt), tt)),
-          (
-            ([], ((one, (lit< tt, writes), tt), tt)),
-            (
-              (_, ((one, record { in_range = lit< tt; has_lock = writes; gives_back = inl refl }, tt), refl)),
-              (
-                ([], ((one, (lit< tt, inr (inl refl, refl)), tt), tt)),
-                (
-                  ([], ((one, (lit< tt, writes), tt), tt)),
-                  (
-                    (_, ((one, record { in_range = lit< tt; has_lock = writes; gives_back = inl refl }, tt), refl)),
-                    (
-                      ([], ((one, put_made, put_logged), tt)),
-                      (
-                        ([], ((one, (lit≤ tt, lit≤ tt), tt), tt)),
-                        (
-                          ([], ((one, (lit< tt, writes), tt), tt)),
-                          (
-                            (_, ((one, record { in_range = lit< tt; has_lock = writes; gives_back = inr record { took = (_, refl); writes = refl; has = refl; durable = lit≤ tt } }, tt), refl)),
-                            (
-                              ([], ((one, record { in_range = lit< tt; has_lock = writes; home = refl; released = (lit≤ tt, lit≤ tt) }, tt), tt)),
-                              (
-                                ([], ((two, (lit< tt, inl ((lit< tt, refl), refl)), tt), tt)),
-                                (([], ((two, (lit< tt, reads), tt), tt)), tt),
-                              ),
-                            ),
-                          ),
-                        ),
-                      ),
-                    ),
-                  ),
-                ),
-              ),
-            ),
-          ),
+          ([], ((two, (lit< tt, inl ((lit< tt, refl), refl)), tt), tt)),
+          (([], ((two, (lit< tt, reads), tt), tt)), tt),
         ),
       ),
     ),

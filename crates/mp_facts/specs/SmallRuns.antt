@@ -35,9 +35,16 @@ abbrev pub puts_row : List CoreEvent
 puts_row = Trx (StoreActive 1 (small_trx 0)) ∷ comes_to_write 0 ++ comes_to_write 1 ++ comes_to_write 2 ++ Pages (StoreLlsn 1 small_put) ∷ []
 
 -- and puts the former row back, and is over
-abbrev pub puts_back : List CoreEvent
-puts_back = puts_row ++ Pages (StoreLlsn 1 small_restore) ∷ Trx (StoreEnd 1 (small_trx 0) None) ∷ []
+abbrev pub then_puts_back : List CoreEvent
+then_puts_back = Pages (StoreLlsn 1 small_restore) ∷ Trx (StoreEnd 1 (small_trx 0) None) ∷ []
 
 -- or the put is durable, node 1 lets its leaf go, and node 2 comes to read it and is given it
+abbrev pub then_hands_over : List CoreEvent
+then_hands_over = map Pages (StoreDurable 1 5 ∷ TakeFrame 1 1 ∷ GiveFrame 1 1 (pages_after fresh_map (small_put ∷ []) 1) ∷ UnlockWord 1 1 ∷ LockWord 2 1 0 2 ∷ TakeFrame 2 1 ∷ [])
+
+-- the whole runs
+abbrev pub puts_back : List CoreEvent
+puts_back = puts_row ++ then_puts_back
+
 abbrev pub hands_leaf_over : List CoreEvent
-hands_leaf_over = puts_row ++ map Pages (StoreDurable 1 5 ∷ TakeFrame 1 1 ∷ GiveFrame 1 1 (pages_after fresh_map (small_put ∷ []) 1) ∷ UnlockWord 1 1 ∷ LockWord 2 1 0 2 ∷ TakeFrame 2 1 ∷ [])
+hands_leaf_over = puts_row ++ then_hands_over

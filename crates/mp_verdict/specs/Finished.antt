@@ -7,7 +7,6 @@ use Rattle.mp_model.specs.declared.replies.Answer.{Answer}
 use Rattle.mp_model.specs.declared.replies.Reply.{Reply}
 use Rattle.mp_model.specs.declared.replies.Reply.TheVariants.{CommittedNone, Held}
 use Rattle.mp_model.specs.declared.transcripts.Down.{Down}
-use Rattle.mp_model.specs.declared.transcripts.Mode.TheVariants.{Run}
 use Rattle.mp_script.specs.declared.statements.Script.{Script}
 use Rattle.mp_script.specs.declared.statements.SessionOn.{SessionOn}
 use Rattle.mp_script.specs.Execution.{Execution, stmt_in}
@@ -22,6 +21,7 @@ use Rattle.mp_core.specs.declared.opening.CoreOpening.{CoreOpening}
 use Rattle.mp_core.specs.Invariant.{NumbersFit}
 use Rattle.mp_core.specs.World.{CoreWorld, core_part}
 use Rattle.mp_facts.specs.Facts.{opening_pages, Facts}
+use Rattle.mp_book.specs.Answered.{execution_above}
 use Rattle.mp_supports.specs.Work.{Work, begin_names}
 use Rattle.mp_supports.specs.Seeing.{key_value_of}
 use Rattle.mp_supports.specs.Kept.{Entry, answers_in, Kept}
@@ -46,18 +46,7 @@ is_session_on sessions session primary = list_any (λ on. on.session == session 
 
 -- the script's lines as far as they are answered: no more than that is looked up in it
 abbrev pub answered_so_far : Work → List Answer → Execution
-answered_so_far work answers = record {
-  primaries = 0;
-  sessions = work.sessions;
-  lines = work.lines;
-  opening = record { base = 0; taken = 0; rows = record { items = []; spare = 0 } };
-  mode = Run;
-  base = 0;
-  parts = [];
-  answers = answers;
-  downs = [];
-  commits = 0;
-}
+answered_so_far work answers = execution_above work.lines work.sessions answers
 
 -- the transactions that a reply names, and those that its statement waited for
 abbrev pub names_of_reply : Reply → List TrxName
