@@ -37,6 +37,3 @@ pub use rows::{Link, Row};
 pub use trees::{
     law_clean_examples, law_heights, law_same_content, law_small_maps, law_tree_search,
 };
-
-#[cfg(test)]
-mod tests;

@@ -1,6 +1,6 @@
 -- The three kinds of mtrs and when a node may make one: one puts a row, one puts a row back, and one records a commit. All
 -- is asked of the node's own part.
-use Rattle.std.specs.Prelude.{◌≡◌, ℕ, ◌⊎◌, List, Option, None, Some, IfSome}
+use Rattle.std.specs.Prelude.{◌≡◌, ℕ, ◌⊎◌, None, Some, IfSome}
 use Rattle.mp_machine.specs.Lists.{IsIn}
 use Rattle.mp_model.specs.declared.ids.TrxId.{TrxId}
 use Rattle.mp_cells.specs.declared.records.Mtr.{Mtr}

@@ -18,6 +18,3 @@ pub use lock_words::{exclusive, has_other, has_other_writer, held_by, release_ma
 pub use opening::{Brief, MOST_MTRS, PAGES, PagesOpening, Touch};
 pub use page_lock::Held;
 pub use part::{ContentStep, FrameRow, GaveRow, GivenPage, LockRow, PagesPart, Placed};
-
-#[cfg(test)]
-mod tests;

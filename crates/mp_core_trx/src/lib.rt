@@ -13,6 +13,3 @@ pub use laws::{law_trx_examples, law_trx_inv};
 pub use opening::{Base, SLOTS, TrxOpening};
 pub use part::{Begun, Draw, SlotLoad, SlotRow, TrxPart};
 pub use slot::{Shown, SlotTag};
-
-#[cfg(test)]
-mod tests;

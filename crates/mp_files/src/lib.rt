@@ -8,6 +8,3 @@ mod laws;
 pub use disks::Disks;
 pub use file_disk::{FileDisk, FileRefusal};
 pub use laws::law_nine;
-
-#[cfg(test)]
-mod tests;

@@ -5,6 +5,3 @@
 mod writing;
 
 pub use writing::{write_gated, write_safely};
-
-#[cfg(test)]
-mod tests;

@@ -18,6 +18,3 @@ pub use log::{Log, Unopened};
 pub use readers::Reader;
 pub use refusals::LogRefusal;
 pub use resetting::{init, reset};
-
-#[cfg(test)]
-mod tests;

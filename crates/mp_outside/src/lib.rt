@@ -19,8 +19,6 @@ mod sinks;
 mod sources;
 mod std_sink;
 mod std_source;
-#[cfg(test)]
-mod tests;
 mod writing;
 
 pub use disk_reading::{byte_at, read_exactly};

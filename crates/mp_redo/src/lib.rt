@@ -10,6 +10,3 @@ mod writing;
 pub use laws::{law_mtr_size, law_mtr_spelling, law_small_mtr};
 pub use reading::{RedoRefusal, decode};
 pub use writing::{encode, size};
-
-#[cfg(test)]
-mod tests;

@@ -23,6 +23,3 @@ pub use fresh::init;
 pub use headers::Header;
 pub use refusals::StoreRefusal;
 pub use store::{Store, Unopened};
-
-#[cfg(test)]
-mod tests;

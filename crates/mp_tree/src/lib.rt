@@ -19,8 +19,3 @@ pub use plan::Plan;
 pub use restore::plan_restore;
 pub use search::{LeafRows, Look, find, look_at, rows_from};
 pub use write::{PlanKind, PlanRefusal, Write, plan_write};
-
-#[cfg(test)]
-mod memory;
-#[cfg(test)]
-mod tests;

@@ -1,6 +1,6 @@
 //! A file of the system, once.
 
-use crate::FileDisk;
+use mp_files::FileDisk;
 use mp_outside::{Disk, Failed, read_exactly};
 use std::fs;
 use std::test::Fail;

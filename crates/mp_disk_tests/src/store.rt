@@ -1,10 +1,10 @@
 //! Stops at each device call of `init`, `write_page`, `flip_header` and `close_later` with each choice of a crash, and
 //! the places of faults.
 
-use crate::*;
 use mp_model::Memory;
 use mp_outside::{Disk, FuseDisk, MemDisk, read_exactly};
 use mp_page::Page;
+use mp_store::{Header, Store, StoreRefusal, init};
 use std::alloc::Global;
 use std::test::Fail;
 

@@ -6,10 +6,10 @@ ghost use Rattle.mp_cells.specs.Rows.{IsRow};
 ghost use Rattle.mp_cells.specs.Children.{IsChild};
 ghost use Rattle.mp_cells.specs.Changes.{HasCells};
 
-use super::*;
 use mp_cells::{read_row, write_row};
 use mp_model::NotYet;
 use mp_page::{Change, Child, ChildCells, Page, Pager, Pages, Row, RowCells, apply};
+use mp_tree::Plan;
 
 /// Pages in a list; those behind it are blank.
 #[derive(Debug, Drop)]

@@ -1,10 +1,12 @@
+//! Searches and plans over a tree of pages in memory.
+
 ghost use Rattle.std.specs.Prelude.{◌<◌, ◌≤◌, IsTrue, IfSome};
 ghost use Rattle.mp_cells.specs.Rows.{is_writer, IsRow};
 
-use super::*;
-use crate::memory::Store;
+use crate::tree_memory::Store;
 use mp_model::{NotYet, TrxId, Value};
 use mp_page::{Change, Kind, Page, Pager, Pages, Row, read_page};
+use mp_tree::{Plan, PlanKind, PlanRefusal, Write, find, plan_restore, plan_write, rows_from};
 use std::alloc::Global;
 use std::test::*;
 
@@ -222,7 +224,7 @@ fn undo_page(plan: &Plan) -> Option<u16>
     None
 }
 
-// The keys i * step % 2,003 in the order of i, which are all different. Whether each could be written, and all are found.
+// The keys i * step % 2,003 in the order of i, which are all different. Whether each could be written.
 fn writes_all(store: &mut Store, plan: &mut Plan, step: u32) -> bool {
     let mut undo = None;
     for i in 0..2000u32 {
@@ -232,6 +234,11 @@ fn writes_all(store: &mut Store, plan: &mut Plan, step: u32) -> bool {
         }
         undo = undo_page(plan);
     }
+    true
+}
+
+// Whether each of these keys is found.
+fn finds_all(store: &mut Store, step: u32) -> bool {
     for i in 0..2000u32 {
         let key = i.wrapping_mul(step) % 2003;
         match find(store, key) {
@@ -246,21 +253,12 @@ fn writes_all(store: &mut Store, plan: &mut Plan, step: u32) -> bool {
     true
 }
 
+// Keys in ascending, in descending and in a shuffled order.
 #[test]
-fn keys_in_ascending_order(rt: HostRuntime) -> Result<(), Fail> {
-    assert!(rt; written_by(rt.alloc(), 1).ok_or("a store")?);
-    Ok(())
-}
-
-#[test]
-fn keys_in_descending_order(rt: HostRuntime) -> Result<(), Fail> {
-    assert!(rt; written_by(rt.alloc(), 2002).ok_or("a store")?);
-    Ok(())
-}
-
-#[test]
-fn keys_in_a_shuffled_order(rt: HostRuntime) -> Result<(), Fail> {
-    assert!(rt; written_by(rt.alloc(), 776).ok_or("a store")?);
+fn keys_in_each_order(rt: HostRuntime) -> Result<(), Fail> {
+    for step in [1, 2002, 776] {
+        assert!(rt; written_by(rt.alloc(), step).ok_or("a store")?);
+    }
     Ok(())
 }
 
@@ -269,7 +267,8 @@ fn keys_in_a_shuffled_order(rt: HostRuntime) -> Result<(), Fail> {
 fn written_by(alloc: Global, step: u32) -> Option<bool> {
     let mut store = fresh_store(alloc)?;
     let mut plan = Plan::new(alloc).ok()?;
-    Some(writes_all(&mut store, &mut plan, step) && is_filled(&mut store))
+    let is_written = writes_all(&mut store, &mut plan, step) && finds_all(&mut store, step);
+    Some(is_written && is_filled(&mut store))
 }
 
 fn is_filled(store: &mut Store) -> bool {

@@ -1,4 +1,6 @@
-use crate::{Shown, SlotTag};
+//! The words of transaction slots.
+
+use mp_core_trx::{Shown, SlotTag};
 
 #[test]
 fn a_word_shows_its_fields(rt: HostRuntime) {

@@ -1,5 +1,7 @@
-use super::*;
+//! Each kind of record: read and written again, cut off at each byte, and with wrong fields.
+
 use mp_model::Text;
+use mp_redo::{RedoRefusal, decode, encode, size};
 use std::alloc::Global;
 use std::test::*;
 

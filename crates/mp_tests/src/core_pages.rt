@@ -1,4 +1,8 @@
-use crate::{Held, exclusive, has_other, has_other_writer, held_by, release_mask, shared_with};
+//! The words of page locks.
+
+use mp_core_pages::{
+    Held, exclusive, has_other, has_other_writer, held_by, release_mask, shared_with,
+};
 
 #[test]
 fn a_lock_word_names_its_holders(rt: HostRuntime) {

@@ -1,25 +1,7 @@
-//! Calls that fail by their numbers, one happy call of each source, sink and disk, and what each choice of a crash
-//! leaves.
+//! Calls that fail by their numbers, standard input and output, and what each choice of a crash leaves.
 
-use crate::*;
+use mp_outside::{Disk, Failed, MemDisk, MemSink, StdSink, StdSource, read_all, write_all};
 use std::test::Fail;
-
-#[test]
-fn a_source_in_memory_fails_by_numbers(rt: HostRuntime) -> Result<(), Fail> {
-    let table = [
-        ([].as_slice(), Ok(3), Ok(2)),
-        ([1].as_slice(), Err(Failed), Ok(3)),
-        ([2].as_slice(), Ok(3), Err(Failed)),
-        ([2, 1].as_slice(), Err(Failed), Err(Failed)),
-    ];
-    for (fail, first, second) in table {
-        let mut source = MemSource::new(rt.alloc(), b"hello", fail)?;
-        let mut into = [0; 3];
-        assert_eq!(rt; source.read(&mut into), first);
-        assert_eq!(rt; source.read(&mut into), second);
-    }
-    Ok(())
-}
 
 #[test]
 fn a_sink_in_memory_fails_by_numbers_and_fills_up(rt: HostRuntime) -> Result<(), Fail> {
@@ -35,16 +17,6 @@ fn a_sink_in_memory_fails_by_numbers_and_fills_up(rt: HostRuntime) -> Result<(),
         assert_eq!(rt; write_all(&mut sink, b"hello"), written);
         assert_eq!(rt; sink.written(), bytes);
     }
-    Ok(())
-}
-
-#[test]
-fn a_source_is_read_in_pieces_to_its_end(rt: HostRuntime) -> Result<(), Fail> {
-    let bytes = vec![in rt.alloc(); 7u8; 10_000]?;
-    let mut source = MemSource::new(rt.alloc(), &bytes, &[])?;
-    assert_eq!(rt; read_all(rt.alloc(), &mut source, 9_000)?.len(), 9_000);
-    assert_eq!(rt; read_all(rt.alloc(), &mut source, 9_000)?.len(), 1_000);
-    assert_eq!(rt; read_all(rt.alloc(), &mut source, 9_000)?.len(), 0);
     Ok(())
 }
 
@@ -88,19 +60,5 @@ fn a_disk_in_memory_fails_by_numbers_and_room(rt: HostRuntime) -> Result<(), Fai
     assert_eq!(rt; disk.write_at(3, b"de"), Err(Failed));
     assert_eq!(rt; disk.write_at(3, b"d"), Ok(()));
     assert_eq!(rt; disk.length(), Ok(4));
-    Ok(())
-}
-
-#[test]
-fn a_fuse_passes_calls_and_then_fails_all(rt: HostRuntime) -> Result<(), Fail> {
-    let mut fuse = FuseDisk::new(MemDisk::new(rt.alloc(), b"abc", 4, &[])?, 3);
-    assert_eq!(rt; fuse.write_at(1, b"xy"), Ok(()));
-    assert_eq!(rt; byte_at(&mut fuse, 2), Ok(b'y'));
-    assert_eq!(rt; fuse.cut(2), Ok(()));
-    assert_eq!(rt; fuse.sync(), Err(Failed));
-    let mut disk = fuse.into_disk();
-    assert_eq!(rt; disk.length(), Ok(2));
-    disk.crash(0);
-    assert_eq!(rt; disk.length(), Ok(3));
     Ok(())
 }

@@ -1,7 +1,7 @@
 //! The worked log, damaged forms of it, and a force that is stopped at each call with each crash.
 
-use super::*;
-use mp_outside::{Disk, FuseDisk, MemDisk, byte_at, read_exactly};
+use mp_log::{Log, LogRefusal, Reader, Unopened, reset};
+use mp_outside::{Disk, FuseDisk, MemDisk, read_exactly};
 use mp_redo::{decode, size};
 use std::alloc::Global;
 use std::test::*;
@@ -127,17 +127,6 @@ fn a_stop_leaves_whole_batches(rt: HostRuntime) -> Result<(), Fail> {
                 assert!(rt; passes >= opened + 2 || !whole);
             }
         }
-    }
-    Ok(())
-}
-
-#[test]
-fn a_log_is_made_afresh_whatever_stood_there(rt: HostRuntime) -> Result<(), Fail> {
-    for file in [WORKED.as_slice(), b"A log of another kind", b""] {
-        let mut disk = MemDisk::new(rt.alloc(), file, 64, &[])?;
-        assert_eq!(rt; init(&mut disk), Ok(()));
-        assert_eq!(rt; disk.length(), Ok(1));
-        assert_eq!(rt; byte_at(&mut disk, 0), Ok(0));
     }
     Ok(())
 }
