@@ -22,10 +22,10 @@ pub record IsElse {T : Type 0} (xs : List T) (place k : ℕ) (x : T) : Type 0 wh
   pub other : (place ≡ k) → ⊥
   pub stood : slice_get xs k ≡ Some x
 
-none_some : {T : Type 0} (x : T) → None ≡ Some x → ⊥
+pub none_some : {T : Type 0} (x : T) → None ≡ Some x → ⊥
 none_some x e = cc
 
-some_is : {T : Type 0} (x y : T) → Some x ≡ Some y → y ≡ x
+pub some_is : {T : Type 0} (x y : T) → Some x ≡ Some y → y ≡ x
 some_is x y e = cc
 
 zero_suc : (n : ℕ) → zero ≡ suc n → ⊥

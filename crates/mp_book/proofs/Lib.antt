@@ -7,3 +7,4 @@ pub mod NextAnswer
 pub mod Books
 pub mod Changes
 pub mod Spelled
+pub mod SmallBooks

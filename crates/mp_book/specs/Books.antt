@@ -1,6 +1,5 @@
 -- What a book's fields mean together: its answers are placed, and each session stands where its answers say.
-use Rattle.std.specs.Prelude.{◌≡◌, ◌≢◌, ℕ, ◌+◌, ◌≤◌, ◌<◌, ◌==◌, ◌&&◌, ◌⊎◌, Bool, true, false, List, [], ◌∷◌, ◌++◌, length, Option, None, Some, is_some, slice_get, slice_set, if◌then◌else◌, IfSome}
-use Rattle.std.specs.List.{list_any}
+use Rattle.std.specs.Prelude.{◌≡◌, ◌≢◌, ℕ, ◌+◌, ◌≤◌, ◌<◌, ◌⊎◌, Bool, true, false, List, [], ◌∷◌, ◌++◌, length, Option, None, Some, is_some, slice_get, slice_set, if◌then◌else◌, IfSome}
 use Rattle.mp_model.specs.declared.replies.Answer.{Answer}
 use Rattle.mp_model.specs.declared.replies.Reply.{Reply}
 use Rattle.mp_model.specs.declared.replies.Reply.TheVariants.{Began, Got, Scanned, Wrote, Committed, CommittedNone, Unknown, RolledBack, Conflict, Held, Full, Skipped, Stopped}
@@ -10,7 +9,7 @@ use Rattle.mp_script.specs.declared.statements.SessionOn.{SessionOn}
 use Rattle.mp_script.specs.declared.statements.Stmt.{Stmt}
 use Rattle.mp_script.specs.declared.statements.Stmt.TheVariants as stmts
 use Rattle.mp_script.specs.Entries.{open_after}
-use Rattle.mp_script.specs.Execution.{Execution, answer_at, reply_at, runs_on}
+use Rattle.mp_script.specs.Execution.{Execution, answer_at, reply_at, is_session_on, runs_on}
 use Rattle.mp_script.specs.Transactions.{target_of, trx_at, statements_before, refused_among, wrote_among}
 use Rattle.mp_script.specs.Right.{WritesKey}
 use Rattle.mp_script.specs.Below.{EachBelow, answered}
@@ -176,7 +175,7 @@ pub record IsAnswered (old new : Book) (number : ℕ) (s : Session) (line : Line
 
 -- a primary's statements of a session
 abbrev pub own_lines : List Line → List SessionOn → ℕ → ℕ → List Line
-own_lines lines sessions primary number = if list_any (λ on. on.session == number && on.primary == primary) sessions then session_lines number lines else []
+own_lines lines sessions primary number = if is_session_on sessions number primary then session_lines number lines else []
 
 -- what a session had, it has, whatever room its lists have
 pub record HasSameSession (old new : Book) (number : ℕ) (s : Session) : Type 0 where

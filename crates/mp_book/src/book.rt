@@ -1,9 +1,9 @@
 //! The book of a primary.
 
-ghost use Rattle.std.specs.Prelude.{◌≡◌, ℕ, ◌+◌, ◌<◌, ◌==◌, ◌&&◌, ◌⊎◌, true, List, [], MatchOption, Some, None, is_some, slice_get, length, OnOk, IfOk, IfSome};
-ghost use Rattle.std.specs.List.{list_any};
+ghost use Rattle.std.specs.Prelude.{◌≡◌, ℕ, ◌+◌, ◌<◌, ◌⊎◌, true, List, [], MatchOption, Some, None, is_some, slice_get, length, OnOk, IfOk, IfSome};
 ghost use Rattle.mp_script.specs.declared.statements.Line.{Line};
 ghost use Rattle.mp_script.specs.declared.statements.SessionOn.{SessionOn};
+ghost use Rattle.mp_script.specs.Execution.{is_session_on};
 ghost use Rattle.mp_script.specs.Transactions.{target_of};
 ghost use Rattle.mp_script.specs.WentDown.{is_stopped};
 ghost use Rattle.mp_core_trx.specs.declared.part.Begun.{Begun};
@@ -12,6 +12,7 @@ ghost use Rattle.mp_book.specs.Orderly.{IsOrderly};
 ghost use Rattle.mp_book.specs.Stages.{next_line, with_former};
 ghost use Rattle.mp_book.specs.Answered.{execution_above, NoneShowsDown, HasWrittenHere};
 ghost use Rattle.mp_script.specs.Entries.{open_after};
+ghost use Rattle.mp_book.specs.Through.{have_no_task};
 ghost use Rattle.mp_book.specs.Books.{IsBook, IsNext, IsAnswered, MayAnswer, stage_after, skipped_to, StartsAs, own_lines, SetsSession, HasSameSession, HasRoom, HasRoomIn, NotesWait, RefusalStands, IsRolledBack, IsGoingBack};
 
 use crate::session::Session;
@@ -140,6 +141,13 @@ impl Book {
         self.count_one_back(session);
     }
 
+    /// Whether the primary is through: no session has anything left to do.
+    pub fn is_through(&self) -> bool
+        ensures { result ≡ have_no_task self.now.sessions.items }
+    {
+        are_through(&self.sessions)
+    }
+
     // Makes room in one session.
     fn make_room_in(&mut self, session: u8) -> Result<(), Memory>
         requires { session < length self.old.sessions.items }
@@ -246,9 +254,16 @@ fn first_session(alloc: Global, script: &Script, number: u8, primary: u8) -> Res
     }
 }
 
+// Whether none of the sessions has anything left to do.
+fn are_through(sessions: &[Session]) -> bool
+    ensures { result ≡ have_no_task sessions.now }
+{
+    sessions.iter().all(|session| session.has_no_task())
+}
+
 // Whether a session is one of the primary.
 fn is_on(sessions: &[SessionOn], number: u8, primary: u8) -> bool
-    ensures { result ≡ list_any (λ on. on.session == number && on.primary == primary) sessions.now }
+    ensures { result ≡ is_session_on sessions.now number primary }
 {
     sessions
         .iter()

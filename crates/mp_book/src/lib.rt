@@ -3,11 +3,16 @@
 #![tactic(auto)]
 
 mod book;
+mod examples;
 mod laws;
 mod session;
 mod stage;
 
 pub use book::Book;
+pub use examples::{
+    law_answer_examples, law_book_examples, law_list_examples, law_session_examples,
+    law_stage_examples, law_statement_examples,
+};
 pub use laws::law_orderly;
 pub use mp_core_trx::Begun;
 pub use session::Session;

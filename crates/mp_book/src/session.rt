@@ -3,6 +3,7 @@
 ghost use Rattle.std.specs.Prelude.{◌≡◌, ◌+◌, ◌<◌, [], length, MatchOption, OnOk, IfOk};
 ghost use Rattle.mp_book.specs.Orderly.{session_lines};
 ghost use Rattle.mp_book.specs.Stages.{next_line, task_left, task_of, with_former, with_name, is_named};
+ghost use Rattle.mp_book.specs.Through.{has_no_task};
 ghost use Rattle.mp_book.specs.Books.{StartsAs, IsSameSession, GoesOn};
 
 use crate::stage::{Stage, Task};
@@ -73,6 +74,17 @@ impl Session {
         match self.next_line() {
             Some(line) => Task::Statement(line),
             None => self.task_left(),
+        }
+    }
+
+    /// Whether it has nothing left to do.
+    pub fn has_no_task(&self) -> bool
+        ensures { result ≡ has_no_task self.now }
+    {
+        match self.task() {
+            Task::Statement(_) => false,
+            Task::Unprinted => false,
+            Task::Nothing => true,
         }
     }
 

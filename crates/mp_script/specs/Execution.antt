@@ -70,6 +70,10 @@ answer_at (answer ∷ answers) session index = if (answer.session == session && 
 abbrev pub reply_at : Execution → ℕ → ℕ → Option Reply
 reply_at run session index = option_map (λ answer. answer.reply) (answer_at run.answers session index)
 
+-- a session is declared on a primary
+abbrev pub is_session_on : List SessionOn → ℕ → ℕ → Bool
+is_session_on sessions session primary = list_any (λ on. on.session == session && on.primary == primary) sessions
+
 -- a session runs on a primary
 abbrev pub runs_on : Execution → ℕ → ℕ → Bool
-runs_on run session primary = list_any (λ on. on.session == session && on.primary == primary) run.sessions
+runs_on run session primary = is_session_on run.sessions session primary

@@ -27,3 +27,8 @@ pub mod PlainState
 pub mod OneSession
 pub mod Drafts
 pub mod Readings
+pub mod Standing
+pub mod LastValues
+pub mod BeginNames
+pub mod DownLines
+pub mod Answers

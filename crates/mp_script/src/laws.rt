@@ -1,16 +1,20 @@
 //! Laws of the script language.
 
-ghost use Rattle.std.specs.Prelude.{◌≡◌, ◌<◌, ◌≤◌, ℕ, List, [], None, IfSome};
+ghost use Rattle.std.specs.Prelude.{◌≡◌, ◌+◌, ◌<◌, ◌≤◌, ℕ, List, [], None, IfSome};
 ghost use Rattle.std.specs.List.{AllByRecursion};
+ghost use Rattle.mp_model.specs.Folded.{over, before, value_at};
 ghost use Rattle.mp_model.specs.declared.histories.Opening.{Opening};
+ghost use Rattle.mp_model.specs.declared.key_value.KeyValue.{KeyValue};
+ghost use Rattle.mp_model.specs.declared.key_value.KeyWrite.{KeyWrite};
 ghost use Rattle.mp_model.specs.declared.transcripts.Part.{Part};
 ghost use Rattle.mp_model.specs.declared.transcripts.Transcript.{Transcript};
 ghost use Rattle.mp_script.specs.Below.{EachBelow, stated};
 ghost use Rattle.mp_script.specs.Execution.{Execution, execution_of};
 ghost use Rattle.mp_script.specs.InTheirPart.{count_from, IsNextStatement, LeavesNone, AnswersEachOnce};
 ghost use Rattle.mp_script.specs.Entries.{statements};
+ghost use Rattle.mp_script.specs.LastValues.{last_value, value_over, IsValueInView, CommitsAboveViews};
 ghost use Rattle.mp_script.specs.Numbered.{AreNumbered, AreNumberedOnce};
-ghost use Rattle.mp_script.specs.Seen.{seen};
+ghost use Rattle.mp_script.specs.Seen.{history, seen};
 ghost use Rattle.mp_script.specs.SpelledLines.{IsLineInRange, IsRowInRange, HaveTheirBegin, begin_count};
 ghost use Rattle.mp_script.specs.Transactions.{view_at, cts_of};
 ghost use Rattle.mp_script.specs.declared.statements.Script.{Script};
@@ -62,4 +66,11 @@ pub fn law_seen_rows()
     ensures { (script : Script) (opening : Opening) (transcript : Transcript) → IsSpelled script
         → AllByRecursion IsRowInRange opening.rows.items
         → (session index : ℕ) → AllByRecursion IsRowInRange (seen (execution_of script opening transcript) session index) }
+{}
+
+/// The value of a key after writes is what the last write of it sets, or else the value before them. The rows of a view
+/// have at a key what the latest commit in the view that wrote the key set, or the opening's value.
+pub fn law_value_in_view()
+    ensures over_rows { (key : ℕ) (rows : List KeyValue) (writes : List KeyWrite) → value_at key (over rows writes) ≡ value_over (last_value key writes) (value_at key rows) }
+    ensures in_view { (run : Execution) (key view : ℕ) → CommitsAboveViews run → run.opening.base ≤ view → view ≤ run.opening.base + run.commits → IsValueInView run view key (value_at key (before run.opening.rows.items (history run run.commits) view)) }
 {}

@@ -10,13 +10,11 @@ mod plain;
 mod printing;
 mod reading;
 mod statements;
-#[cfg(test)]
-mod tests;
 mod words;
 mod worked;
 
-pub use examples::law_examples;
-pub use laws::law_one_script;
+pub use examples::{law_examples, law_word_examples};
+pub use laws::{law_one_script, law_value_in_view};
 pub use plain::answer_plainly;
 pub use printing::{print, push_numbered};
 pub use reading::{ScriptRefusal, parse};
