@@ -6,3 +6,8 @@ pub mod SmallParts
 pub mod Classes
 pub mod Unchanged
 pub mod Media
+pub mod Places
+pub mod Formers
+pub mod OpenSteps
+pub mod BoundSteps
+pub mod ShownRows

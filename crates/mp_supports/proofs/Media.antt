@@ -1,5 +1,5 @@
 -- What the media hold, where a step makes nothing and forces nothing, and where it makes an mtr or forces.
-use Rattle.std.proofs.Common.{◌≡◌, ℕ, ◌+◌, ◌*◌, ◌^◌, ◌<◌, ◌≤◌, Bool, true, false, List, [], ◌∷◌, ◌++◌, length, map, reverse, refl, sym, ap, subst, ◌∙◌, append_assoc, append-nil, arith}
+use Rattle.std.proofs.Common.{◌≡◌, ℕ, ◌<◌, Bool, true, false, List, [], ◌∷◌, ◌++◌, length, map, reverse, refl, sym, ap, subst, ◌∙◌, append_assoc, append-nil, arith}
 use Rattle.std.specs.List.{AllByRecursion}
 use Rattle.std.proofs.lemmas.List.{map-append, reverse-append}
 use Rattle.mp_script.proofs.Lists.{all_append}
@@ -36,10 +36,9 @@ module _ (p q : CorePart) (e : CoreExtends p q) (made : q.pages.made ≡ p.pages
   pub disk_kept : (work : Work) (down : ℕ) (tail : TailView) (unforced tells : Bool) (seen : List ℕ) (image : List ℕ → Type 0) → OnDisk work p down tail unforced tells seen image → OnDisk work q down tail unforced tells seen image
   disk_kept work down tail unforced tells seen image h = record {
     images = λ told c is. image_kept work c (h.images told c is);
-    live = λ live told. let stands = h.live live told in (stands.0, stands.1, stands.2, same_order ∙ stands.3);
+    live = λ live told. let stands = h.live live told in (stands.0, stands.1, stands.2, same_order ∙ stands.3, subst (λ n. AllByRecursion (λ (mtr : Mtr). n < mtr.llsn) stands.1) (sym same_durable) stands.4);
     last = λ some. h.last (let count : length q.pages.made ≡ length p.pages.made = ap (λ (l : List (Placed Mtr)). length l) made in omega (arith, some, count)) ∙ sym (same_last p q e made);
     forced = λ none. let both = h.forced none in (same_last p q e made ∙ both.0 ∙ sym same_durable, both.1);
-    place = let count : length q.pages.made ≡ length p.pages.made = ap (λ (l : List (Placed Mtr)). length l) made in let le = h.place in omega (arith, count, le);
     closed = h.closed;
   }
 
@@ -53,9 +52,9 @@ order_more p q x made =
 module _ (work : Work) (p q : CorePart) (down : ℕ) (tells : Bool) (seen : List ℕ) (image : List ℕ → Type 0) where
   -- one mtr more, which isn't durable, was appended
   pub disk_made : (x : Placed Mtr) (old tail : TailView) (unforced : Bool) → MadeOne x p q → durable_of q < x.mtr.llsn → OnDisk work p down old unforced tells seen image
-      → (tail.live ≡ true → tells ≡ true → (batches : List (List Mtr)) × (pending : List Mtr) × LogStands batches (pending ++ x.mtr ∷ []) tail seen image × (mtrs_in_order p ≡ above_base work batches ++ pending))
-      → tail.last ≡ x.mtr.llsn → tail.place ≡ old.place → tail.live ≡ old.live → OnDisk work q down tail true tells seen image
-  disk_made x old tail unforced step above h appended last place live = record {
+      → ((batches : List (List Mtr)) (pending : List Mtr) → LogStands batches pending old seen image → LogStands batches (pending ++ x.mtr ∷ []) tail seen image)
+      → tail.last ≡ x.mtr.llsn → tail.live ≡ old.live → OnDisk work q down tail true tells seen image
+  disk_made x old tail unforced step above h appended last live = record {
     images = λ told c is.
         let before = h.images told c is in
         record {
@@ -63,12 +62,18 @@ module _ (work : Work) (p q : CorePart) (down : ℕ) (tells : Bool) (seen : List
           text = before.text;
           later = before.later ++ x.mtr ∷ [];
           front = order_more p q x step.made ∙ ap (λ l. l ++ x.mtr ∷ []) before.front ∙ append_assoc (above_base work before.batches) before.later (x.mtr ∷ []);
-          covers = all_append (λ (mtr : Mtr). durable_of q < mtr.llsn) before.later (x.mtr ∷ []) (subst (λ n. AllByRecursion (λ (mtr : Mtr). n < mtr.llsn) before.later) (sym durable) before.covers) (above, tt);
+          covers = undurable before.later before.covers;
         };
-    live = λ is_live told. let stands = appended is_live told in (stands.0, stands.1 ++ x.mtr ∷ [], stands.2, order_more p q x step.made ∙ ap (λ l. l ++ x.mtr ∷ []) stands.3 ∙ append_assoc (above_base work stands.0) stands.1 (x.mtr ∷ []));
+    live = λ is_live told.
+        let stands = h.live (sym live ∙ is_live) told in (
+          stands.0,
+          stands.1 ++ x.mtr ∷ [],
+          appended stands.0 stands.1 stands.2,
+          order_more p q x step.made ∙ ap (λ l. l ++ x.mtr ∷ []) stands.3 ∙ append_assoc (above_base work stands.0) stands.1 (x.mtr ∷ []),
+          undurable stands.1 stands.4,
+        );
     last = λ some. last ∙ sym (ap (λ (l : List (Placed Mtr)). last_llsn page_ops q.trx.opening.base.llsn l) step.made);
     forced = λ e. absurd (true_false e);
-    place = let count : length q.pages.made ≡ length (x ∷ p.pages.made) = ap (λ (l : List (Placed Mtr)). length l) step.made in let le = h.place in omega (arith, count, le, place);
     closed = λ e. h.closed (sym live ∙ e);
   }
     where
@@ -78,15 +83,17 @@ module _ (work : Work) (p q : CorePart) (down : ℕ) (tells : Bool) (seen : List
       durable : durable_of q ≡ durable_of p
       durable = ap (λ l. durable_llsn q.trx.opening.base.llsn l) step.durables ∙ ap (λ (o : TrxOpening). durable_llsn o.base.llsn p.pages.durables) step.extends.trx.same_opening
 
+      undurable : (mtrs : List Mtr) → AllByRecursion (λ (mtr : Mtr). durable_of p < mtr.llsn) mtrs → AllByRecursion (λ (mtr : Mtr). durable_of q < mtr.llsn) (mtrs ++ x.mtr ∷ [])
+      undurable mtrs each = all_append (λ (mtr : Mtr). durable_of q < mtr.llsn) mtrs (x.mtr ∷ []) (subst (λ n. AllByRecursion (λ (mtr : Mtr). n < mtr.llsn) mtrs) (sym durable) each) (above, tt)
+
   -- all was forced, and the durable LLSN says so
   pub disk_forced : (tail : TailView) (batches : List (List Mtr)) → Forced (last_made_llsn p) p q → LogStands batches [] tail seen image → mtrs_in_order p ≡ above_base work batches
-      → tail.live ≡ true → (0 < length p.pages.made → tail.last ≡ last_made_llsn p) → tail.place ≤ 2 ^ 62 + 21000 * length p.pages.made → OnDisk work q down tail false tells seen image
-  disk_forced tail batches step stands order is_live last place = record {
+      → tail.live ≡ true → (0 < length p.pages.made → tail.last ≡ last_made_llsn p) → OnDisk work q down tail false tells seen image
+  disk_forced tail batches step stands order is_live last = record {
     images = λ told c is. record { batches = batches; text = stands.images c is; later = []; front = all; covers = tt };
-    live = λ live told. (batches, [], stands, all);
+    live = λ live told. (batches, [], stands, all, tt);
     last = λ some. last (let count : length q.pages.made ≡ length p.pages.made = ap (λ (l : List (Placed Mtr)). length l) step.made in omega (arith, some, count)) ∙ sym (same_last p q step.extends step.made);
     forced = λ e. (same_last p q step.extends step.made ∙ sym (ap (λ l. durable_llsn q.trx.opening.base.llsn l) step.durables), stands.bytes);
-    place = let count : length q.pages.made ≡ length p.pages.made = ap (λ (l : List (Placed Mtr)). length l) step.made in omega (arith, count, place);
     closed = λ e. absurd (true_false (sym is_live ∙ e));
   }
     where

@@ -16,13 +16,13 @@ module _ (p q : CorePart) (e : CoreExtends p q) where
   pub newest_more : (leaf : GivenPage PageView) (key : ℕ) (newest : Row) → ShowsNewest p leaf key newest → ShowsNewest q leaf key newest
   newest_more leaf key newest h = record { given = given_in p q e leaf h.given; its_leaf = h.its_leaf; newest_is = h.newest_is }
 
-  next_more : (row next : Row) → ShowsNext p row next → ShowsNext q row next
+  pub next_more : (row next : Row) → ShowsNext p row next → ShowsNext q row next
   next_more row next h = record { link = h.link; linked = h.linked; page = h.page; given = given_in p q e h.page h.given; number = h.number; next_is = h.next_is }
 
   pub load_more : (id : TrxId) (load : SlotLoad) → IsLoadOf p id load → IsLoadOf q id load
   load_more id load h = record { loaded = loaded_in p q e load h.loaded; of = h.of; slot = h.slot }
 
-  hidden_more : (reader : TrxId) (view : ℕ) (row : Row) → IsHidden p reader view row → IsHidden q reader view row
+  pub hidden_more : (reader : TrxId) (view : ℕ) (row : Row) → IsHidden p reader view row → IsHidden q reader view row
   hidden_more reader view row h = record {
     writer = h.writer;
     its_writer = h.its_writer;
@@ -49,7 +49,7 @@ module _ (p q : CorePart) (e : CoreExtends p q) where
   seen_more : (reader : TrxId) (view : ℕ) (row : Row) → IsSeenBy p reader view row → IsSeenBy q reader view row
   seen_more reader view row h = ⊎_elim (λ own. inl own) (λ settled. inr (settled_more view row settled)) h
 
-  leads_more : (reader : TrxId) (view : ℕ) (row : Row) (older : List Row) (found : Row) → LeadsToSeen p reader view row older found → LeadsToSeen q reader view row older found
+  pub leads_more : (reader : TrxId) (view : ℕ) (row : Row) (older : List Row) (found : Row) → LeadsToSeen p reader view row older found → LeadsToSeen q reader view row older found
   leads_more reader view row [] found h = (h.0, seen_more reader view row h.1)
   leads_more reader view row (next ∷ older) found h = (hidden_more reader view row h.0, next_more row next h.1, leads_more reader view next older found h.2)
 
@@ -68,7 +68,7 @@ module _ (p q : CorePart) (e : CoreExtends p q) where
     only_put = only_put_more reader h.leaf h.shows.given h.only_put;
   }
 
-  are_seen_more : (reader : TrxId) (view : ℕ) (rows : List Row) (seen : List KeyValue) → AreSeenAs p reader view rows seen → AreSeenAs q reader view rows seen
+  pub are_seen_more : (reader : TrxId) (view : ℕ) (rows : List Row) (seen : List KeyValue) → AreSeenAs p reader view rows seen → AreSeenAs q reader view rows seen
   are_seen_more reader view [] seen h = h
   are_seen_more reader view (newest ∷ others) seen h = (h.0, h.1, h.2, leads_more reader view newest h.0 h.1 h.3, h.4, are_seen_more reader view others h.2 h.5)
 

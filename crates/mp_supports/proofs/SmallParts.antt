@@ -1,5 +1,5 @@
 -- What the small parts show, and what they don't.
-use Rattle.std.proofs.Common.{◌≡◌, ℕ, ◌<◌, ◌≤◌, ◌⊎◌, List, [], ◌∷◌, Option, None, Some, refl, sym, ap, subst, ◌∙◌, inl, inr, ⊎_elim, arith, lit≤, lit<}
+use Rattle.std.proofs.Common.{◌≡◌, ◌≢◌, ℕ, ◌<◌, ◌≤◌, ◌⊎◌, List, [], ◌∷◌, Option, None, Some, refl, sym, ap, subst, ◌∙◌, inl, inr, ⊎_elim, arith, lit≤, lit<}
 use Rattle.mp_machine.specs.Lists.{IsIn}
 use Rattle.mp_model.specs.declared.ids.TrxId.{TrxId}
 use Rattle.mp_model.specs.declared.replies.Reply.TheVariants.{Got}
@@ -24,6 +24,7 @@ use Rattle.mp_core_trx.specs.Words.{shows, shown_of, word_showing}
 use Rattle.mp_core_trx.specs.Parts.{begun_of}
 use Rattle.mp_core_pages.specs.declared.part.Placed.{Placed}
 use Rattle.mp_core_pages.specs.declared.part.GivenPage.{GivenPage}
+use Rattle.mp_core.specs.declared.part.CorePart.{CorePart}
 use Rattle.mp_supports.specs.Seeing.{ShowsNewest, IsSettledFor, IsSeenBy, LeadsToSeen}
 use Rattle.mp_supports.specs.Supports.{looked_trace, IsTrxOf, IsBlocked, IsHeldBy, Supports}
 use Rattle.mp_supports.specs.SmallParts.{own_trx, younger_trx, older_trx, line_of, work_with, answered_with, small_part, version_by, only_leaf, load_showing}
@@ -134,3 +135,8 @@ blocker_is loaded writer key five id holder x h =
 pub holder_is : (loaded : List SlotLoad) (writer : TrxId) (key : ℕ) → key ≡ 5 → (id holder : TrxId) → IsHeldBy (small_part loaded (only_leaf (version_by (Some writer) None 97) ∷ []) []) id key holder → holder ≡ writer
 holder_is loaded writer key five id holder (inl h) = blocker_is loaded writer key five id holder _ h
 holder_is loaded writer key five id holder (inr h) = blocker_is loaded writer key five id holder _ h
+
+-- it is another
+pub is_another : (p : CorePart) (id : TrxId) (key : ℕ) (holder : TrxId) → IsHeldBy p id key holder → holder ≢ id
+is_another p id key holder (inl h) = h.other
+is_another p id key holder (inr h) = h.other

@@ -37,9 +37,21 @@ use Rattle.mp_supports.proofs.Extending.{begun_in, placed_in}
 use Rattle.mp_supports.proofs.SupportsMore.{reply_more, waits_more}
 use Rattle.mp_supports.proofs.Keeping.{if_some_map}
 
+-- an mtr that neither puts a row nor puts one back leaves the rows that were replaced, and puts none back
+module _ (p q : CorePart) (x : Placed Mtr) (made : q.pages.made ≡ x ∷ p.pages.made) where
+  pub former_neither : row_put_by x.mtr ≡ None → row_restored_by x.mtr ≡ None → (b : Begun) (key : ℕ) → first_former q.pages.made b.id key ≡ first_former p.pages.made b.id key
+  former_neither no_put no_back b key = ap (λ (l : List (Placed Mtr)). first_former l b.id key) made ∙ rw (no_back, no_put) refl
+
+  pub neither_back : row_restored_by x.mtr ≡ None → (m : TrxMtr) → IsIn m (trx_mtrs q.pages.made) → IsIn m (trx_mtrs p.pages.made) ⊎ (row_restored_by m.mtr ≡ None)
+  neither_back no_back m there = newest (subst (λ (l : List (Placed Mtr)). IsIn m (trx_mtrs l)) made there)
+    where
+      newest : IsIn m (trx_mtrs (x ∷ p.pages.made)) → IsIn m (trx_mtrs p.pages.made) ⊎ (row_restored_by m.mtr ≡ None)
+      newest (inl is) = inr (ap (λ (k : TrxMtr). row_restored_by k.mtr) is ∙ no_back)
+      newest (inr old) = inl old
+
 module _ (work : Work) (p q : CorePart) (down : ℕ) (e : CoreExtends p q) where
   -- what next statements have found stays supported
-  refusal_kept : (stage : Stage) (line : Option Line) → RefusalSupported work p down stage line → RefusalSupported work q down stage line
+  pub refusal_kept : (stage : Stage) (line : Option Line) → RefusalSupported work p down stage line → RefusalSupported work q down stage line
   refusal_kept Closed line h = h
   refusal_kept (Open trx) line h = h
   refusal_kept (Refused trx refusal) line h =
@@ -49,7 +61,7 @@ module _ (work : Work) (p q : CorePart) (down : ℕ) (e : CoreExtends p q) where
   refusal_kept Skipping line h = h
   refusal_kept (Outside trx) line h = h
 
-  waits_kept : (s : Session) → IfSome (next_line s) (λ line. SupportsWaits work p line s.waits.items) → IfSome (next_line s) (λ line. SupportsWaits work q line s.waits.items)
+  pub waits_kept : (s : Session) → IfSome (next_line s) (λ line. SupportsWaits work p line s.waits.items) → IfSome (next_line s) (λ line. SupportsWaits work q line s.waits.items)
   waits_kept s h = if_some_map (λ (l : Line). SupportsWaits work p l s.waits.items) (λ (l : Line). SupportsWaits work q l s.waits.items) (next_line s) (λ l. waits_more p q e work l s.waits.items) h
 
   -- where begins, rows and the mtrs' formers and restores are as they were, the open transactions are the sessions' still
@@ -82,14 +94,7 @@ module _ (work : Work) (p q : CorePart) (down : ℕ) (e : CoreExtends p q) where
 
   -- or one that neither puts a row nor puts one back
   pub opens_commit : (x : Placed Mtr) → q.trx.begun ≡ p.trx.begun → q.trx.rows ≡ p.trx.rows → q.pages.made ≡ x ∷ p.pages.made → row_put_by x.mtr ≡ None → row_restored_by x.mtr ≡ None → (sessions : List Session) → Opens work p down sessions → Opens work q down sessions
-  opens_commit x begun rows made no_put no_back =
-      opens_kept begun rows
-      (λ b key. ap (λ (l : List (Placed Mtr)). first_former l b.id key) made ∙ rw (no_back, no_put) refl)
-      (λ m there. newest m (subst (λ (l : List (Placed Mtr)). IsIn m (trx_mtrs l)) made there))
-    where
-      newest : (m : TrxMtr) → IsIn m (trx_mtrs (x ∷ p.pages.made)) → IsIn m (trx_mtrs p.pages.made) ⊎ (row_restored_by m.mtr ≡ None)
-      newest m (inl is) = inr (ap (λ (k : TrxMtr). row_restored_by k.mtr) is ∙ no_back)
-      newest m (inr old) = inl old
+  opens_commit x begun rows made no_put no_back = opens_kept begun rows (former_neither p q x made no_put no_back) (neither_back p q x made no_back)
 
 -- more pages tell no smaller LLSN
 told_more : (more given : List (GivenPage PageView)) → told_llsn page_ops given ≤ told_llsn page_ops (more ++ given)

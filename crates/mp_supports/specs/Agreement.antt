@@ -1,11 +1,12 @@
 -- When a primary's sessions and counts agree with its part.
-use Rattle.std.specs.Prelude.{◌≡◌, ◌≢◌, ℕ, ◌+◌, ◌*◌, ◌≤◌, ◌<◌, ◌⊎◌, max, Bool, List, length, drop, count_by, sum_by, Option, None, Some, is_some, IfSome}
+use Rattle.std.specs.Prelude.{◌≡◌, ◌≢◌, ℕ, ◌+◌, ◌*◌, ◌≤◌, ◌<◌, ◌⊎◌, max, Bool, List, [], length, drop, slice_get, count_by, sum_by, Option, None, Some, is_some, IfSome}
 use Rattle.mp_machine.specs.Lists.{IsIn}
 use Rattle.mp_model.specs.declared.replies.Answer.{Answer}
 use Rattle.mp_model.specs.declared.replies.Reply.{Reply}
 use Rattle.mp_script.specs.declared.statements.Line.{Line}
 use Rattle.mp_script.specs.Execution.{stmt_in}
 use Rattle.mp_script.specs.Transactions.{target_key, trx_in_lines}
+use Rattle.mp_script.specs.BeginNames.{begin_names}
 use Rattle.mp_cells.specs.declared.changes.Change.TheVariants.{MakeUndo}
 use Rattle.mp_cells.specs.declared.records.Mtr.{Mtr}
 use Rattle.mp_cells.specs.Plans.{plan_of}
@@ -20,12 +21,11 @@ use Rattle.mp_core.specs.declared.part.CorePart.{CorePart}
 use Rattle.mp_core.specs.Contents.{page_ops}
 use Rattle.mp_core.specs.OwnMtrs.{row_restored_by, first_former, TrxMtr, trx_mtrs}
 use Rattle.mp_book.specs.declared.session.Session.{Session}
-use Rattle.mp_book.specs.declared.stage.Refusal.{Refusal}
 use Rattle.mp_book.specs.declared.stage.Stage.{Stage}
-use Rattle.mp_book.specs.declared.stage.Stage.TheVariants.{Closed, Open, Refused, Leaving, Skipping, Outside}
+use Rattle.mp_book.specs.declared.stage.Stage.TheVariants.{Refused}
 use Rattle.mp_book.specs.Stages.{next_line, trx_of_stage}
 use Rattle.mp_book.specs.Books.{IsRefusalReply}
-use Rattle.mp_supports.specs.Work.{Work, name_of, begin_names}
+use Rattle.mp_supports.specs.Work.{Work, name_of}
 use Rattle.mp_supports.specs.Supports.{no_trace, SupportsReply, SupportsWaits}
 
 -- A session's transaction as the part has it: it was begun, and is ACTIVE unless the primary is down (with this number, 0
@@ -50,6 +50,14 @@ pub record Opens (work : Work) (p : CorePart) (down : ℕ) (sessions : List Sess
   pub only : (b : Begun) → IsIn b p.trx.begun → IsOpen p.trx b.id → (s : Session) × IsIn s sessions × (trx_of_stage s.stage ≡ Some b)
   pub waits : (s : Session) → IsIn s sessions → IfSome (next_line s) (λ line. SupportsWaits work p line s.waits.items)
   pub refused : (s : Session) → IsIn s sessions → RefusalSupported work p down s.stage (next_line s)
+
+-- each session stands at the place of its number
+abbrev pub StandAtNumbers : List Session → Type 0
+StandAtNumbers sessions = (number : ℕ) (s : Session) → slice_get sessions number ≡ Some s → s.number ≡ number
+
+-- a session waits for nobody now, or its next statement is the same and waits for those for whom it did
+abbrev pub HasNoNewWait : Session → Session → Type 0
+HasNoNewWait old new = (new.waits.items ≡ []) ⊎ ((next_line new ≡ next_line old) × (new.waits.items ≡ old.waits.items))
 
 -- the LLSN of the last mtr that the part made, or the base
 abbrev pub last_made_llsn : CorePart → ℕ

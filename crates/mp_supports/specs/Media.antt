@@ -1,5 +1,5 @@
 -- What a primary's log holds of its part.
-use Rattle.std.specs.Prelude.{◌≡◌, ◌≢◌, ℕ, ◌+◌, ◌*◌, ◌^◌, ◌<◌, ◌≤◌, nat_lt, Bool, true, false, List, [], ◌++◌, length, map, filter, reverse}
+use Rattle.std.specs.Prelude.{◌≡◌, ◌≢◌, ℕ, ◌<◌, nat_lt, Bool, true, false, List, [], ◌++◌, length, map, filter, reverse}
 use Rattle.std.specs.List.{AllByRecursion}
 use Rattle.mp_cells.specs.declared.records.Mtr.{Mtr}
 use Rattle.mp_core.specs.declared.part.CorePart.{CorePart}
@@ -29,9 +29,9 @@ pub record IsOnImage (work : Work) (p : CorePart) (image : List ℕ) : Type 0 wh
 -- is unforced where this says so
 pub record OnDisk (work : Work) (p : CorePart) (down : ℕ) (tail : TailView) (unforced tells : Bool) (seen : List ℕ) (image : List ℕ → Type 0) : Type 0 where
   pub images : tells ≡ true → (c : List ℕ) → image c → IsOnImage work p c
-  -- while the log takes mtrs, its forced and its appended ones are all
+  -- while the log takes mtrs, its forced and its appended ones are all, and the appended ones aren't durable
   pub live : tail.live ≡ true → tells ≡ true → (batches : List (List Mtr)) × (pending : List Mtr) × LogStands batches pending tail seen image × (mtrs_in_order p ≡ above_base work batches ++ pending)
+      × AllByRecursion (λ mtr. durable_of p < mtr.llsn) pending
   pub last : 0 < length p.pages.made → tail.last ≡ last_made_llsn p
   pub forced : unforced ≡ false → (last_made_llsn p ≡ durable_of p) × (tail.bytes ≡ [])
-  pub place : tail.place ≤ 2 ^ 62 + 21000 * length p.pages.made
   pub closed : tail.live ≡ false → down ≢ 0

@@ -29,6 +29,8 @@ use Rattle.mp_core.specs.OwnMtrs.{TrxMtr}
 use Rattle.mp_book.specs.declared.session.Session.{Session}
 use Rattle.mp_book.specs.declared.stage.Stage.TheVariants.{Open}
 use Rattle.mp_supports.specs.Work.{Work}
+use Rattle.mp_supports.specs.Supports.{looked_trace, wrote_trace}
+use Rattle.mp_supports.specs.Kept.{Entry}
 
 -- sessions 2 and 3 of primary 2 begin one transaction each, and session 1 of primary 1 one between them
 abbrev pub older_trx : TrxId
@@ -118,9 +120,23 @@ made_at_four mtr = record { at = 4; mtr = mtr } ∷ []
 abbrev pub own_mtr : Mtr → TrxMtr
 own_mtr mtr = record { at = 4; of = Some own_trx; mtr = mtr }
 
--- the names of the others
+-- the part once its log is durable up to this LLSN
+abbrev pub forced_to : ℕ → CorePart → CorePart
+forced_to llsn p = record p { pages = record (p.pages) { durables = llsn ∷ p.pages.durables } }
+
+-- an entry that rests on the only leaf, and one of that mtr
+abbrev pub read_entry : Entry
+read_entry = record { answer = None; trace = looked_trace (only_leaf (version_by None None 97) ∷ []) }
+
+abbrev pub write_entry : Entry
+write_entry = record { answer = None; trace = wrote_trace [] (own_mtr (commit_mtr 1)) }
+
+-- the names of the transactions
 abbrev pub older_name : TrxName
 older_name = record { session = 2; first = 1 }
+
+abbrev pub own_name : TrxName
+own_name = record { session = 1; first = 1 }
 
 abbrev pub younger_name : TrxName
 younger_name = record { session = 3; first = 1 }

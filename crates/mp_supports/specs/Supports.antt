@@ -158,11 +158,12 @@ SupportsReply work p down trace line (Unknown cts) =
 SupportsReply work p down trace line (Stopped by) = (down ≡ by) × (by ≢ 0) × StoppedWith work p trace line
 SupportsReply work p down trace line reply = (id : TrxId) × (view : ℕ) × IsTrxOf work p line id view × SupportsTrxReply work p trace line id view reply
 
--- a younger transaction that a write waited for
+-- a write waited for another transaction that holds its key and isn't older; no part alone tells that the versions of two
+-- primaries' transactions differ
 abbrev pub IsWaitFor : Work → CorePart → Line → TrxId → ℕ → TrxName → Type 0
-IsWaitFor work p line id key name = (holder : TrxId) × IsHeldBy p id key holder × (id.version < holder.version) × IsNameOf work line id holder name
+IsWaitFor work p line id key name = (holder : TrxId) × IsHeldBy p id key holder × (id.version ≤ holder.version) × IsNameOf work line id holder name
 
--- the support of the waits: a write waited for younger transactions, each named once; nothing else waited
+-- the support of the waits: a write waited for transactions that aren't older, each named once; nothing else waited
 abbrev pub SupportsWaits : Work → CorePart → Line → List TrxName → Type 0
 SupportsWaits work p line waits = MatchOption (target_of line.stmt) (waits ≡ [])
     (λ target. IsWithoutRepeat waits × AllByRecursion (λ name. (id : TrxId) × (view : ℕ) × IsTrxOf work p line id view × IsWaitFor work p line id target.key name) waits)

@@ -10,10 +10,10 @@ ghost use Rattle.mp_core_trx.specs.Parts.{begun_of, draw_of};
 ghost use Rattle.mp_supports.specs.Supports.{no_trace, looked_trace, began_trace, wrote_trace, commit_trace, Supports, SupportsWaits};
 ghost use Rattle.mp_core.specs.CoreExtends.{CoreExtends};
 ghost use Rattle.mp_supports.specs.Agreement.{Opens, Mirrors, Bounds};
-ghost use Rattle.mp_supports.specs.Kept.{Kept, Did, MayBeKept};
-ghost use Rattle.mp_supports.specs.Steps.{OnlyLooked};
+ghost use Rattle.mp_supports.specs.Kept.{Precedes, Kept, Did, GoesDownOnce, MayBeKept};
+ghost use Rattle.mp_supports.specs.Steps.{OnlyLooked, MadeOne, Forced, TrxStep};
 ghost use Rattle.mp_supports.specs.Media.{OnDisk};
-ghost use Rattle.mp_supports.specs.SmallParts.{older_trx, own_trx, younger_trx, line_of, work_with, answered_with, small_part, part_before_steps, version_by, only_leaf, first_link, only_undo, only_meta, load_showing, open_part, open_session, put_over, commit_mtr, made_at_four, own_mtr, older_name, younger_name};
+ghost use Rattle.mp_supports.specs.SmallParts.{older_trx, own_trx, younger_trx, line_of, work_with, answered_with, small_part, part_before_steps, version_by, only_leaf, first_link, only_undo, only_meta, load_showing, open_part, open_session, put_over, commit_mtr, made_at_four, own_mtr, forced_to, read_entry, write_entry, older_name, own_name, younger_name};
 
 /// A `begin` is answered with the view with which its transaction was begun, and with no other.
 pub fn law_supports_begin_examples()
@@ -78,10 +78,11 @@ pub fn law_supports_end_examples()
     ensures not_stopped_while_up { ¬ Supports (work_with Stmt.Commit) (small_part [] [] []) 0 (answered_with (Reply.Stopped 2)) no_trace }
 {}
 
-/// A write waits for a younger transaction that holds its key, and not for an older one.
+/// A write waits for a younger transaction that holds its key, and not for an older one, nor for its own.
 pub fn law_supports_wait_examples()
     ensures younger { SupportsWaits (work_with (Stmt.Del 5)) (small_part (load_showing younger_trx (shows SlotTag.Active 3 0) ∷ []) (only_leaf (version_by (Some younger_trx) None 97) ∷ []) []) (line_of 1 2 (Stmt.Del 5)) (younger_name ∷ []) }
     ensures not_older { ¬ SupportsWaits (work_with (Stmt.Del 5)) (small_part (load_showing older_trx (shows SlotTag.Active 1 0) ∷ []) (only_leaf (version_by (Some older_trx) None 97) ∷ []) []) (line_of 1 2 (Stmt.Del 5)) (older_name ∷ []) }
+    ensures not_itself { ¬ SupportsWaits (work_with (Stmt.Del 5)) (small_part (load_showing own_trx (shows SlotTag.Active 2 0) ∷ []) (only_leaf (version_by (Some own_trx) None 97) ∷ []) []) (line_of 1 2 (Stmt.Del 5)) (own_name ∷ []) }
 {}
 
 /// A part's open transaction is a session's; a primary's LLSN is none that nobody told it; more mtrs than writes were
@@ -114,4 +115,19 @@ pub fn law_entries_examples()
     ensures forgets_nothing { ¬ CoreExtends (small_part [] [] []) part_before_steps }
     ensures looked { OnlyLooked part_before_steps part_before_steps }
     ensures not_looked { ¬ OnlyLooked part_before_steps (small_part [] [] []) }
+{}
+
+/// A step made the mtr that the part has more, a force what is durable, and a step of transactions no pages. A read stands before a write
+/// that came after its page was given, and not behind it. A primary that is down stays so.
+pub fn law_steps_examples()
+    ensures made { MadeOne record { at = 4; mtr = commit_mtr 1 } (small_part [] [] []) (small_part [] [] (made_at_four (commit_mtr 1))) }
+    ensures not_made { ¬ MadeOne record { at = 4; mtr = commit_mtr 1 } (small_part [] [] []) (small_part [] [] []) }
+    ensures forced { Forced 2 (small_part [] [] []) (forced_to 2 (small_part [] [] [])) }
+    ensures not_forced { ¬ Forced 2 (small_part [] [] []) (small_part [] [] []) }
+    ensures trx { TrxStep (small_part [] [] []) open_part }
+    ensures not_trx { ¬ TrxStep (small_part [] [] []) (small_part [] [] (made_at_four (commit_mtr 1))) }
+    ensures precedes { Precedes read_entry write_entry }
+    ensures not_precedes { ¬ Precedes write_entry read_entry }
+    ensures goes_down { GoesDownOnce (small_part [] [] []) (small_part [] [] []) 0 2 }
+    ensures not_up_again { ¬ GoesDownOnce (small_part [] [] []) (small_part [] [] []) 2 0 }
 {}

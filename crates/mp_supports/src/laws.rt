@@ -1,5 +1,5 @@
 //! The laws, as the contracts of functions that do nothing.
-ghost use Rattle.std.specs.Prelude.{ℕ, Bool, true, false, List, [], ◌∷◌, ◌++◌, length, ◌≡◌, ◌<◌, ◌≤◌, ◌+◌, ◌*◌, ◌^◌, ◌⊎◌, Option, None, Some};
+ghost use Rattle.std.specs.Prelude.{ℕ, Bool, true, false, List, [], ◌∷◌, ◌++◌, length, slice_get, slice_set, ◌≡◌, ◌≢◌, ◌<◌, ◌≤◌, ◌+◌, ◌⊎◌, Option, None, Some};
 ghost use Rattle.std.specs.List.{AllByRecursion};
 ghost use Rattle.mp_machine.specs.Lists.{IsIn};
 ghost use Rattle.mp_model.specs.declared.ids.TrxId.{TrxId};
@@ -7,24 +7,33 @@ ghost use Rattle.mp_model.specs.declared.ids.TrxName.{TrxName};
 ghost use Rattle.mp_model.specs.declared.replies.Answer.{Answer};
 ghost use Rattle.mp_model.specs.declared.replies.Reply.{Reply};
 ghost use Rattle.mp_script.specs.declared.statements.Line.{Line};
+ghost use Rattle.mp_script.specs.Execution.{stmt_in};
+ghost use Rattle.mp_script.specs.Transactions.{begins, trx_in_lines};
 ghost use Rattle.mp_cells.specs.PageView.{PageView};
 ghost use Rattle.mp_cells.specs.declared.records.Mtr.{Mtr};
 ghost use Rattle.mp_cells.specs.declared.rows.Row.{Row};
 ghost use Rattle.mp_core_trx.specs.declared.part.Begun.{Begun};
 ghost use Rattle.mp_core_trx.specs.declared.part.Draw.{Draw};
+ghost use Rattle.mp_core_trx.specs.declared.slot.SlotTag.TheVariants.{Active};
+ghost use Rattle.mp_core_trx.specs.Words.{shows};
+ghost use Rattle.mp_core_trx.specs.Events.{IsUsable, slot_row, ended};
+ghost use Rattle.mp_core_trx.specs.Parts.{IsOpen, shown_at};
 ghost use Rattle.mp_core_pages.specs.declared.part.GivenPage.{GivenPage};
 ghost use Rattle.mp_core_pages.specs.declared.part.Placed.{Placed};
 ghost use Rattle.mp_core.specs.declared.part.CorePart.{CorePart};
 ghost use Rattle.mp_core.specs.CoreExtends.{durable_of, CoreExtends};
-ghost use Rattle.mp_core.specs.OwnMtrs.{row_put_by, row_restored_by, TrxMtr};
+ghost use Rattle.mp_core.specs.OwnMtrs.{row_put_by, row_kept_by, row_restored_by, trx_of_mtr, TrxMtr, trx_mtrs};
 ghost use Rattle.mp_book.specs.declared.session.Session.{Session};
-ghost use Rattle.mp_supports.specs.Work.{Work};
+ghost use Rattle.mp_book.specs.declared.stage.Stage.TheVariants.{Open};
+ghost use Rattle.mp_book.specs.Stages.{trx_of_stage, HaveOneRowEach, with_former};
+ghost use Rattle.mp_book.specs.Books.{GoesOn, KeepsFormer};
+ghost use Rattle.mp_supports.specs.Work.{Work, name_of};
 ghost use Rattle.mp_supports.specs.Seeing.{Sees};
 ghost use Rattle.mp_supports.specs.Supports.{Trace, no_trace, began_trace, wrote_trace, commit_trace, SupportsReply, SupportsWaits, Supports};
 ghost use Rattle.mp_supports.specs.Kept.{Entry, IsTraced, Kept, Did, GoesDownOnce, MayBeKept};
 ghost use Rattle.mp_supports.specs.Steps.{OnlyLooked, MadeOne, Forced, TrxStep, trx_mtr_of, drew_trace};
 ghost use Rattle.mp_log.specs.Tails.{TailView, LogStands};
-ghost use Rattle.mp_supports.specs.Agreement.{last_made_llsn, Opens, Mirrors, Bounds};
+ghost use Rattle.mp_supports.specs.Agreement.{last_made_llsn, rows_left, is_of_write, StandAtNumbers, HasNoNewWait, Opens, Mirrors, Bounds};
 ghost use Rattle.mp_supports.specs.Media.{mtrs_in_order, above_base, OnDisk};
 
 use mp_outside::Disk;
@@ -83,14 +92,60 @@ pub fn law_steps_keep()
     ensures bounds_trx { (work : Work) (p q : CorePart) (answers : List Answer) (sessions : List Session) → TrxStep p q → Bounds work p answers sessions → Bounds work q answers sessions }
 {}
 
+/// Where a session's transaction begins, puts, puts a row back or ends, the open transactions are the sessions' again once
+/// the session goes on so. Over the steps of a commit the others' slots and rows must stay as they were.
+pub fn law_sessions_go_on()
+    ensures begun { (work : Work) (p q : CorePart) (down number : ℕ) (sessions : List Session) (s after : Session) (b : Begun) → TrxStep p q
+        → q.trx.begun ≡ b ∷ p.trx.begun → q.trx.rows ≡ slot_row b.id (shows Active b.id.version 0) ∷ p.trx.rows
+        → IsUsable p.trx b.id.slot → ((c : Begun) → IsIn c p.trx.begun → c.id.version ≢ b.id.version) → ((m : TrxMtr) → IsIn m (trx_mtrs p.pages.made) → m.of ≢ Some b.id)
+        → StandAtNumbers sessions → slice_get sessions number ≡ Some s → trx_of_stage s.stage ≡ None → name_of work b.id ≡ Some (trx_in_lines work.lines s.number (s.next + 1)) → GoesOn s after (Open b) [] 0
+        → Opens work p down sessions → Opens work q down (slice_set sessions number after) }
+    ensures put { (work : Work) (p q : CorePart) (down number : ℕ) (sessions : List Session) (s after : Session) (x : Placed Mtr) (trx : Begun) (row kept : Row) (former : Option Row) → MadeOne x p q
+        → row_restored_by x.mtr ≡ None → row_put_by x.mtr ≡ Some row → row.writer ≡ Some trx.id → row_kept_by x.mtr ≡ Some kept
+        → StandAtNumbers sessions → slice_get sessions number ≡ Some s → s.stage ≡ Open trx → s.restored ≡ 0 → begins (stmt_in work.lines s.number (s.next + 1)) ≡ false
+        → KeepsFormer s.formers.items row.key former → (former ≡ None) ⊎ (former ≡ Some kept) → GoesOn s after (Open trx) (with_former s.formers.items former) 0
+        → Opens work p down sessions → Opens work q down (slice_set sessions number after) }
+    ensures put_back { (work : Work) (p q : CorePart) (down number : ℕ) (sessions : List Session) (s : Session) (x : Placed Mtr) (trx : Begun) (row former : Row) → MadeOne x p q
+        → row_restored_by x.mtr ≡ Some row → row_put_by x.mtr ≡ None → trx_of_mtr p.pages.made x.mtr ≡ Some trx.id
+        → StandAtNumbers sessions → slice_get sessions number ≡ Some s → trx_of_stage s.stage ≡ Some trx → slice_get s.formers.items s.restored ≡ Some former → former.key ≡ row.key → HaveOneRowEach s.formers.items
+        → Opens work p down sessions → Opens work q down (slice_set sessions number (record s { restored = s.restored + 1 })) }
+    ensures freed { (work : Work) (p q : CorePart) (down number : ℕ) (sessions : List Session) (s after : Session) (trx : Begun) → TrxStep p q
+        → q.trx.begun ≡ p.trx.begun → q.trx.rows ≡ slot_row trx.id (ended trx.id None) ∷ p.trx.rows → IsOpen p.trx trx.id
+        → StandAtNumbers sessions → slice_get sessions number ≡ Some s → trx_of_stage s.stage ≡ Some trx → trx_of_stage after.stage ≡ None → HasNoNewWait s after
+        → Opens work p down sessions → Opens work q down (slice_set sessions number after) }
+    ensures published { (work : Work) (p q : CorePart) (down number cts : ℕ) (sessions : List Session) (s after : Session) (trx : Begun) (x : Placed Mtr) → CoreExtends p q
+        → q.trx.begun ≡ p.trx.begun → ((slot : ℕ) → slot ≢ trx.id.slot → shown_at q.trx.rows slot ≡ shown_at p.trx.rows slot) → shown_at q.trx.rows trx.id.slot ≡ ended trx.id (Some cts)
+        → q.pages.made ≡ x ∷ p.pages.made → row_put_by x.mtr ≡ None → row_restored_by x.mtr ≡ None → IsOpen p.trx trx.id
+        → StandAtNumbers sessions → slice_get sessions number ≡ Some s → trx_of_stage s.stage ≡ Some trx → trx_of_stage after.stage ≡ None → HasNoNewWait s after
+        → Opens work p down sessions → Opens work q down (slice_set sessions number after) }
+{}
+
+/// The bounds stand where a session goes on: with a put's mtr, where its write is answered; with one that puts a row back; with
+/// a commit's record, where a timestamp was drawn for it; and without an mtr, where the session has no more rows to put back.
+pub fn law_bounds_go_on()
+    ensures put { (work : Work) (p q : CorePart) (answers : List Answer) (number : ℕ) (sessions : List Session) (s after : Session) (x : Placed Mtr) (trx : Begun) (former : Option Row) (a : Answer) → MadeOne x p q
+        → slice_get sessions number ≡ Some s → trx_of_stage s.stage ≡ Some trx → GoesOn s after (Open trx) (with_former s.formers.items former) s.restored → is_of_write work.lines a ≡ true
+        → Bounds work p answers sessions → Bounds work q (answers ++ a ∷ []) (slice_set sessions number after) }
+    ensures put_back { (work : Work) (p q : CorePart) (answers : List Answer) (number : ℕ) (sessions : List Session) (s : Session) (x : Placed Mtr) (trx : Begun) → MadeOne x p q
+        → slice_get sessions number ≡ Some s → trx_of_stage s.stage ≡ Some trx → s.restored < length s.formers.items
+        → Bounds work p answers sessions → Bounds work q answers (slice_set sessions number (record s { restored = s.restored + 1 })) }
+    ensures commit { (work : Work) (p q : CorePart) (answers more : List Answer) (number : ℕ) (sessions : List Session) (s after : Session) → CoreExtends p q
+        → length q.pages.made ≡ length p.pages.made + 1 → length q.trx.drew ≡ length p.trx.drew + 1
+        → slice_get sessions number ≡ Some s → rows_left after ≤ rows_left s
+        → Bounds work p answers sessions → Bounds work q (answers ++ more) (slice_set sessions number after) }
+    ensures no_mtr { (work : Work) (p q : CorePart) (answers more : List Answer) (number : ℕ) (sessions : List Session) (s after : Session) → CoreExtends p q → q.pages.made ≡ p.pages.made
+        → slice_get sessions number ≡ Some s → rows_left after ≤ rows_left s
+        → Bounds work p answers sessions → Bounds work q (answers ++ more) (slice_set sessions number after) }
+{}
+
 /// What the media hold stays where a step only looks, or is one of transactions. An mtr that was made must be appended, and
 /// be above what is durable; a force must have left all mtrs in the log's batches.
 pub fn law_steps_keep_media<D: Disk>()
     ensures looked { (work : Work) (p q : CorePart) (down : ℕ) (tail : TailView) (unforced : Bool) (disk : D) → OnlyLooked p q → OnDisk work p down tail unforced (D.tells disk) (D.seen disk) (D.image disk) → OnDisk work q down tail unforced (D.tells disk) (D.seen disk) (D.image disk) }
     ensures trx { (work : Work) (p q : CorePart) (down : ℕ) (tail : TailView) (unforced : Bool) (disk : D) → TrxStep p q → OnDisk work p down tail unforced (D.tells disk) (D.seen disk) (D.image disk) → OnDisk work q down tail unforced (D.tells disk) (D.seen disk) (D.image disk) }
     ensures made { (work : Work) (p q : CorePart) (down : ℕ) (x : Placed Mtr) (old tail : TailView) (unforced : Bool) (disk : D) → MadeOne x p q → durable_of q < x.mtr.llsn → OnDisk work p down old unforced (D.tells disk) (D.seen disk) (D.image disk)
-        → (tail.live ≡ true → D.tells disk ≡ true → (batches : List (List Mtr)) × (pending : List Mtr) × LogStands batches (pending ++ x.mtr ∷ []) tail (D.seen disk) (D.image disk) × (mtrs_in_order p ≡ above_base work batches ++ pending))
-        → tail.last ≡ x.mtr.llsn → tail.place ≡ old.place → tail.live ≡ old.live → OnDisk work q down tail true (D.tells disk) (D.seen disk) (D.image disk) }
+        → ((batches : List (List Mtr)) (pending : List Mtr) → LogStands batches pending old (D.seen disk) (D.image disk) → LogStands batches (pending ++ x.mtr ∷ []) tail (D.seen disk) (D.image disk))
+        → tail.last ≡ x.mtr.llsn → tail.live ≡ old.live → OnDisk work q down tail true (D.tells disk) (D.seen disk) (D.image disk) }
     ensures forced { (work : Work) (p q : CorePart) (down : ℕ) (tail : TailView) (batches : List (List Mtr)) (disk : D) → Forced (last_made_llsn p) p q → LogStands batches [] tail (D.seen disk) (D.image disk) → mtrs_in_order p ≡ above_base work batches
-        → tail.live ≡ true → (0 < length p.pages.made → tail.last ≡ last_made_llsn p) → tail.place ≤ 2 ^ 62 + 21000 * length p.pages.made → OnDisk work q down tail false (D.tells disk) (D.seen disk) (D.image disk) }
+        → tail.live ≡ true → (0 < length p.pages.made → tail.last ≡ last_made_llsn p) → OnDisk work q down tail false (D.tells disk) (D.seen disk) (D.image disk) }
 {}

@@ -1,8 +1,8 @@
 -- All rules together.
-use Rattle.std.proofs.Common.{◌≡◌, ◌≢◌, ℕ, suc, zero, ◌+◌, ◌<◌, ◌==◌, ◌&&◌, ◌||◌, Bool, true, false, List, Some, refl, sym, ap, subst, ◌∙◌, inl, inr, arith, eq-eqb}
+use Rattle.std.proofs.Common.{◌≡◌, ◌≢◌, ℕ, ◌==◌, ◌&&◌, true, false, List, Some, refl, sym, ap, subst, ◌∙◌, inl, inr, arith, eq-eqb}
 use mathlib.Core.Bool.{false≢true}
 use Rattle.std.specs.List.{AllByRecursion}
-use Rattle.std.proofs.lemmas.Bool.{cases_lt, eqb-true, and_from}
+use Rattle.std.proofs.lemmas.Bool.{eqb-true, and_from}
 use Rattle.mp_machine.specs.Lists.{IsIn}
 use Rattle.mp_model.specs.declared.histories.Opening.{Opening}
 use Rattle.mp_model.specs.declared.ids.TrxId.{TrxId}
@@ -16,15 +16,20 @@ use Rattle.mp_model.specs.declared.transcripts.Transcript.{Transcript}
 use Rattle.mp_script.specs.declared.statements.Line.{Line}
 use Rattle.mp_script.specs.declared.statements.Script.{Script}
 use Rattle.mp_script.specs.declared.statements.SessionOn.{SessionOn}
-use Rattle.mp_script.specs.Execution.{Execution, line_at}
+use Rattle.mp_script.specs.Execution.{Execution, line_at, is_session_on}
 use Rattle.mp_script.specs.InTheirPart.{BeginsAtOpening, AnswersEachStatement}
 use Rattle.mp_script.specs.Legal.{ViewsAreRight, WritesSeeEarlierCommits, KeysAreHeld, RepliesAreRight, IsLegal, Legal}
 use Rattle.mp_script.specs.Numbered.{AreNumbered}
 use Rattle.mp_script.specs.Right.{IsRightReply, IsRightAnswer}
 use Rattle.mp_script.specs.Spelling.{IsSpelled}
-use Rattle.mp_script.specs.Transactions.{trx_of, view_at, statements_before, is_number, is_refusal, wrote_at, wrote_among}
+use Rattle.mp_script.specs.Transactions.{trx_of, view_at, statements_before, is_refusal}
 use Rattle.mp_script.specs.WentDown.{IsNamedDown, StaysDown}
 use Rattle.mp_script.specs.Below.{EachInItsPart}
+use Rattle.mp_script.proofs.Options.{some_is}
+use Rattle.mp_script.proofs.Looking.{line_is, any_in}
+use Rattle.mp_script.proofs.ItemsAbove.{all_of}
+use Rattle.mp_script.proofs.DownLines.{line_of_down}
+use Rattle.mp_script.proofs.AmongWrites.{some_wrote}
 use Rattle.mp_core_trx.specs.Parts.{trx, begun_of}
 use Rattle.mp_histories.proofs.Writers.{decided}
 use Rattle.mp_core.specs.declared.opening.CoreOpening.{CoreOpening}
@@ -34,40 +39,22 @@ use Rattle.mp_supports.specs.Work.{Work}
 use Rattle.mp_supports.specs.Supports.{IsTrxOf, IsNameOf, SupportsTrxReply, SupportsReply}
 use Rattle.mp_supports.specs.Kept.{Entry}
 use Rattle.mp_verdict.specs.Counting.{CountsCommits}
-use Rattle.mp_verdict.specs.Finished.{is_session_on, Finished}
+use Rattle.mp_verdict.specs.Finished.{Finished}
 use Rattle.mp_verdict.specs.Orders.{NodeEntry, IsMerged, StepOrder, RunOrder, IsStepTranscript, IsRunTranscript}
 use Rattle.mp_verdict.specs.Told.{IsToldBy}
-use Rattle.mp_verdict.specs.Writers.{WroteKey}
-use Rattle.mp_verdict.proofs.Options.{some_is}
 use Rattle.mp_verdict.proofs.ShownChains.{id_of}
-use Rattle.mp_verdict.proofs.ScriptLines.{line_is}
 use Rattle.mp_verdict.proofs.ToldAnswers.{IsKeptBy, one_node, on_node, supported, kept_answer}
 use Rattle.mp_verdict.proofs.Telling.{IsCommitEntryOn, entry_of_forced, acknowledged_by, in_all}
 use Rattle.mp_verdict.proofs.CommitEntries.{name_by, view_by}
-use Rattle.mp_verdict.proofs.KeyConflicts.{all_of, first_committers_win}
+use Rattle.mp_verdict.proofs.KeyConflicts.{first_committers_win}
 use Rattle.mp_verdict.proofs.RunTold.{run_mode, run_told, run_sees_earlier, run_holds_keys}
 use Rattle.mp_verdict.proofs.StepTold.{step_mode, step_told, step_sees_earlier, step_holds_keys}
 use Rattle.mp_verdict.proofs.RunRules.{run_counts, run_numbered, run_begins, run_views, run_answered}
 use Rattle.mp_verdict.proofs.StepRules.{step_counts, step_numbered, step_begins, step_views, step_answered}
-use Rattle.mp_verdict.proofs.RepliesRight.{line_of_down, any_in, reply_right, follows_right}
+use Rattle.mp_verdict.proofs.RepliesRight.{reply_right, follows_right}
 use Rattle.mp_verdict.proofs.Blocked.{shown_put, held_in_run, waits_in_run}
 use Rattle.mp_verdict.proofs.FullRight.{full_right}
 use Rattle.mp_verdict.proofs.DownsRight.{downs_rise, have_causes, run_stays, step_stays}
-
--- what one of the first statements wrote was written among them
-some_wrote : (run : Execution) (name : TrxName) (count key i : ℕ) → i < count → WroteKey run name i key → wrote_among run name count key ≡ true
-some_wrote run name zero key i lt wrote = absurd (omega (arith, lt))
-some_wrote run name (suc count) key i lt wrote = elim (cases_lt i count) [
-  | inl under ↦ ap (λ (b : Bool). b || is_number key (wrote_at run name.session (name.first + suc count))) (some_wrote run name count key i under wrote)
-  | inr ge ↦
-      let is : i ≡ count = omega (arith, ge, lt) in
-      let here : is_number key (wrote_at run name.session (name.first + suc count)) ≡ true = ap (λ (k : ℕ). is_number key (wrote_at run name.session (name.first + suc k))) (sym is) ∙ ap (is_number key) wrote ∙ eq-eqb key key refl in
-      ap (λ (b : Bool). wrote_among run name count key || b) here ∙ or_so (wrote_among run name count key)
-]
-  where
-    or_so : (b : Bool) → (b || true) ≡ true
-    or_so true = refl
-    or_so false = refl
 
 module _ (script : Script) (spelled : IsSpelled script) (work : Work) (opening : Opening) (o : CoreOpening) (w : CoreWorld) (down : ℕ → ℕ) (entries : ℕ → List Entry) (downs : List Down)
     (f : Finished work script opening o w down entries downs) (run : Execution) (told : IsToldBy work opening o entries downs run) where

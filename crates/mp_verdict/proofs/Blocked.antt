@@ -4,7 +4,7 @@ use mathlib.Core.Bool.{false≢true}
 use Rattle.std.specs.Prelude.{MatchOption}
 use Rattle.std.specs.Option.{option_map}
 use Rattle.std.specs.List.{AllByRecursion}
-use Rattle.std.proofs.lemmas.Bool.{eqb-true}
+use Rattle.std.proofs.lemmas.Bool.{eqb-true, cases_lt}
 use Rattle.mp_machine.specs.Lists.{IsIn}
 use Rattle.mp_model.specs.declared.histories.Opening.{Opening}
 use Rattle.mp_model.specs.declared.ids.TrxId.{TrxId}
@@ -16,11 +16,16 @@ use Rattle.mp_model.specs.declared.replies.WriteVerb.{WriteVerb}
 use Rattle.mp_model.specs.declared.transcripts.Down.{Down}
 use Rattle.mp_script.specs.declared.statements.Line.{Line}
 use Rattle.mp_script.specs.declared.statements.Script.{Script}
-use Rattle.mp_script.specs.Execution.{Execution, line_at, stmt_in, stmt_at, answer_at, reply_at}
+use Rattle.mp_script.specs.Execution.{Execution, line_at, stmt_in, stmt_at, answer_at, reply_at, is_session_on}
 use Rattle.mp_script.specs.Right.{WritesKey, BeginsBefore, HasWritten, WaitedFor, AreRightWaits, IsWithoutRepeat, IsRightReply}
 use Rattle.mp_script.specs.Spelling.{IsSpelled}
 use Rattle.mp_script.specs.Transactions.{Target, target_of, target_key, begins, line_place, trx_in_lines, trx_at, trx_of, is_wrote, wrote_at}
 use Rattle.mp_script.specs.WentDown.{shows_down}
+use Rattle.mp_script.specs.Answers.{names_of_reply, names_of}
+use Rattle.mp_script.proofs.Options.{some_is, not_some}
+use Rattle.mp_script.proofs.Ordered.{all_in, in_left, in_right}
+use Rattle.mp_script.proofs.Looking.{line_is, answer_is}
+use Rattle.mp_script.proofs.ReplyForms.{target_same}
 use Rattle.mp_cells.specs.declared.rows.Row.{Row}
 use Rattle.mp_cells.specs.PageView.{PageView}
 use Rattle.mp_core_trx.specs.declared.slot.Shown.{Shown}
@@ -44,22 +49,21 @@ use Rattle.mp_supports.specs.Work.{Work, name_of}
 use Rattle.mp_supports.specs.Seeing.{ShowsNewest}
 use Rattle.mp_supports.specs.Supports.{IsTrxOf, IsBlocked, IsHeldBy, IsNameOf, IsWaitFor, SupportsWaits, SupportsTrxReply, SupportsReply}
 use Rattle.mp_supports.specs.Kept.{Entry}
-use Rattle.mp_verdict.specs.Finished.{is_session_on, answered_so_far, names_of_reply, names_of, Finished}
+use Rattle.mp_supports.proofs.ShownRows.{runs_at, newest_row}
+use Rattle.mp_verdict.specs.Finished.{Finished}
 use Rattle.mp_verdict.specs.Told.{IsToldBy}
 use Rattle.mp_verdict.specs.Reads.{PutOf}
-use Rattle.mp_verdict.proofs.Options.{some_is, not_some}
-use Rattle.mp_verdict.proofs.Ordered.{all_in, in_left, in_right}
 use Rattle.mp_verdict.proofs.PlacesOf.{put_of, in_its_node}
 use Rattle.mp_verdict.proofs.Covering.{entry_stays}
-use Rattle.mp_verdict.proofs.ShownChains.{runs_at, chain_at, newest_row}
-use Rattle.mp_verdict.proofs.ScriptLines.{line_is}
-use Rattle.mp_verdict.proofs.BeginPlaces.{older_above, named_begins}
+use Rattle.mp_verdict.proofs.ShownChains.{chain_at}
 use Rattle.mp_verdict.proofs.WhichTraces.{which_mtr, which_begin, IsPutBy}
 use Rattle.mp_verdict.proofs.KeptOrder.{answer_of, doubt_of, entry_of_mtr, entry_of_begin}
-use Rattle.mp_verdict.proofs.ToldAnswers.{answer_is, target_same, rise, IsKeptBy, on_node, one_node, supported, kept_answer, in_run, answer_here, wrote_there}
+use Rattle.mp_verdict.proofs.ToldAnswers.{rise, IsKeptBy, on_node, one_node, supported, kept_answer, in_run, answer_here, wrote_there}
 use Rattle.mp_verdict.proofs.Telling.{durable_is, node_of_mtr}
 use Rattle.mp_verdict.proofs.CommitEntries.{name_by}
 use Rattle.mp_verdict.proofs.SoFar.{place_of, over_in}
+use Rattle.mp_verdict.proofs.NamesOfIds.{older_above, named_begins}
+use Rattle.mp_verdict.proofs.NextInOrder.{next_in_order, answered_so_far}
 
 module _ (script : Script) (spelled : IsSpelled script) (work : Work) (opening : Opening) (o : CoreOpening) (w : CoreWorld) (down : ℕ → ℕ) (entries : ℕ → List Entry) (downs : List Down)
     (f : Finished work script opening o w down entries downs) (run : Execution) (told : IsToldBy work opening o entries downs run) where
@@ -109,8 +113,8 @@ module _ (script : Script) (spelled : IsSpelled script) (work : Work) (opening :
   -- its name's session is on its node
   name_on : (id : TrxId) (view : ℕ) (name : TrxName) → IsNode o.trx id.node → IsIn (begun_of id view) (begun_in w.trx id.node) → name_of work id ≡ Some name → is_session_on work.sessions name.session id.node ≡ true
   name_on id view name node begun named =
-      let x = entry_of_begin work o w f.facts id.node (down id.node) (entries id.node) (f.kept id.node node) (f.all id.node node) (f.in_order id.node node) (begun_of id view) begun in
-      let a = answer_of work o w f.facts id.node (down id.node) (entries id.node) (f.kept id.node node) (f.all id.node node) (f.in_order id.node node) x.0 x.1 in
+      let x = entry_of_begin work o w f.facts id.node (down id.node) (entries id.node) (f.kept id.node node) (f.all id.node node) (next_in_order script spelled work opening o w down entries downs f id.node node) (begun_of id view) begun in
+      let a = answer_of work o w f.facts id.node (down id.node) (entries id.node) (f.kept id.node node) (f.all id.node node) (next_in_order script spelled work opening o w down entries downs f id.node node) x.0 x.1 in
       let kept : IsKeptBy script spelled work opening o w down entries downs f run told id.node x.0 a.0 = record { node = node; there = x.1; is = a.1 } in
       let s = supported script spelled work opening o w down entries downs f run told id.node x.0 a.0 kept in
       let b = which_begin work (core_part w id.node) (x.0).trace s.line (down id.node) (a.0).reply (begun_of id view) s.reply x.2 in
@@ -138,8 +142,8 @@ module _ (script : Script) (spelled : IsSpelled script) (work : Work) (opening :
       let p = shown.put in
       let node = node_of_mtr script spelled work opening o w down entries downs f run told holder.node m p.was_made in
       let only = put_of o w f.facts holder.node m newest p.was_made p.put in
-      let x = entry_of_mtr work o w f.facts holder.node (down holder.node) (entries holder.node) (f.kept holder.node node) (f.all holder.node node) (f.in_order holder.node node) m p.was_made only.restored in
-      let a = answer_of work o w f.facts holder.node (down holder.node) (entries holder.node) (f.kept holder.node node) (f.all holder.node node) (f.in_order holder.node node) x.0 x.1 in
+      let x = entry_of_mtr work o w f.facts holder.node (down holder.node) (entries holder.node) (f.kept holder.node node) (f.all holder.node node) (next_in_order script spelled work opening o w down entries downs f holder.node node) m p.was_made only.restored in
+      let a = answer_of work o w f.facts holder.node (down holder.node) (entries holder.node) (f.kept holder.node node) (f.all holder.node node) (next_in_order script spelled work opening o w down entries downs f holder.node node) x.0 x.1 in
       let kept : IsKeptBy script spelled work opening o w down entries downs f run told holder.node x.0 a.0 = record { node = node; there = x.1; is = a.1 } in
       let s = supported script spelled work opening o w down entries downs f run told holder.node x.0 a.0 kept in
       let no_commit : (d : Draw) → commit_by_mtr m.mtr ≡ Some d → ⊥ = λ d is. not_some d (sym only.commit ∙ is) in
@@ -149,7 +153,7 @@ module _ (script : Script) (spelled : IsSpelled script) (work : Work) (opening :
             let row : q.2.over.row ≡ newest = some_is q.2.over.row newest (sym q.2.over.put ∙ p.put) in
             written_by_ok holder name key x.0 a.0 q.0 s.line m kept q.1 s.found q.2 is_id (sym q.2.over.its_key ∙ ap (λ (r : Row). r.key) row ∙ p.its_key) named
         | inr (inl q) ↦
-            let doubt = doubt_of work o w f.facts holder.node (down holder.node) (entries holder.node) (f.kept holder.node node) (f.all holder.node node) (f.in_order holder.node node) x.0 a.0 x.1 a.1 (ap (λ (r : Reply). shows_down r) q.1) m x.2 in
+            let doubt = doubt_of work o w f.facts holder.node (down holder.node) (entries holder.node) (f.kept holder.node node) (f.all holder.node node) (next_in_order script spelled work opening o w down entries downs f holder.node node) x.0 a.0 x.1 a.1 (ap (λ (r : Reply). shows_down r) q.1) m x.2 in
             let durable = shown.durable other in
             absurd (omega (arith, doubt, durable))
         | inr (inr (inl q)) ↦ absurd (no_commit (draw_of q.2.id q.0) q.2.records.commit)
@@ -228,10 +232,21 @@ module _ (script : Script) (spelled : IsSpelled script) (work : Work) (opening :
         let both = held_by s.0 s.1 name s.3 s.5 (stmt_target verb s.0 s.2) listed in
         (s.0, s.2, record { other = both.0; older = before s.1 id name (trx_at run line.session line.index) s.5.named own_named s.4; written = both.1 })
 
+    -- a transaction of another session has another name, so another version
+    younger : (holder : TrxId) (name : TrxName) → name_of work holder ≡ Some name → name.session ≢ line.session → id.version ≤ holder.version → id.version < holder.version
+    younger holder name named other no_older = elim (cases_lt id.version holder.version) [
+      | inl lt ↦ lt
+      | inr no_younger ↦
+          let one : id.version ≡ holder.version = omega (arith, no_older, no_younger) in
+          let one_name : name_of work id ≡ name_of work holder = ap (λ (v : ℕ). name_of work record { node = 0; slot = 0; version = v }) one in
+          let same : trx_in_lines work.lines line.session line.index ≡ name = some_is (trx_in_lines work.lines line.session line.index) name (sym trx.named ∙ one_name ∙ named) in
+          absurd (other (ap (λ (y : TrxName). y.session) (sym same)))
+    ]
+
     pub wait_right : (verb : WriteVerb) (key : ℕ) (name : TrxName) → WritesKey line verb key → IsIn name a.waits.items → IsWaitFor work (core_part w n) line id key name → WaitedFor run line key name
     wait_right verb key name writes there x =
         let both = held_by key x.0 name x.1 x.3 (stmt_target verb key writes) (in_right name (names_of_reply a.reply) a.waits.items there) in
-        record { other = both.0; younger = before id x.0 (trx_at run line.session line.index) name own_named x.3.named x.2; written = both.1 }
+        record { other = both.0; younger = before id x.0 (trx_at run line.session line.index) name own_named x.3.named (younger x.0 name x.3.named both.0 x.2); written = both.1 }
 
   -- the waits of an answer are right
   all_right : (P Q : TrxName → Type 0) (names : List TrxName) → ((y : TrxName) → IsIn y names → P y → Q y) → AllByRecursion P names → AllByRecursion Q names

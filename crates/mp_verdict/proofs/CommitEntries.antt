@@ -1,7 +1,5 @@
 -- The entries of commits and of ok writes: each has its mtr, over what its transaction may replace.
-use Rattle.std.proofs.Common.{◌≡◌, ◌⊎◌, ℕ, suc, zero, ◌+◌, ◌<◌, ◌≤◌, ◌||◌, Bool, true, false, List, Option, Some, None, is_some, refl, sym, ap, subst, ◌∙◌, inl, inr, arith}
-use mathlib.Core.Bool.{false≢true}
-use Rattle.std.proofs.lemmas.Bool.{eqb-true}
+use Rattle.std.proofs.Common.{◌≡◌, ◌⊎◌, ℕ, ◌≤◌, true, false, List, Option, Some, None, is_some, refl, sym, ap, subst, ◌∙◌, inl, inr, arith}
 use Rattle.mp_machine.specs.Lists.{IsIn}
 use Rattle.mp_machine.proofs.Lists.{same_item}
 use Rattle.mp_model.specs.declared.histories.Opening.{Opening}
@@ -9,20 +7,23 @@ use Rattle.mp_model.specs.declared.ids.TrxId.{TrxId}
 use Rattle.mp_model.specs.declared.ids.TrxName.{TrxName}
 use Rattle.mp_model.specs.declared.replies.Answer.{Answer}
 use Rattle.mp_model.specs.declared.replies.Reply.{Reply}
-use Rattle.mp_model.specs.declared.replies.Reply.TheVariants.{Began, Got, Scanned, Wrote, Committed, CommittedNone, Unknown, RolledBack, Conflict, Held, Full, Skipped, Stopped}
+use Rattle.mp_model.specs.declared.replies.Reply.TheVariants.{Wrote}
 use Rattle.mp_model.specs.declared.transcripts.Down.{Down}
 use Rattle.mp_script.specs.declared.statements.Line.{Line}
 use Rattle.mp_script.specs.declared.statements.Script.{Script}
 use Rattle.mp_script.specs.Execution.{Execution, line_at}
 use Rattle.mp_script.specs.Spelling.{IsSpelled}
-use Rattle.mp_script.specs.Transactions.{trx_in_lines, trx_of, view_at, statements_before, target_key, cts_of, is_number, wrote_at, wrote_among, wrote_before}
+use Rattle.mp_script.specs.Transactions.{trx_in_lines, trx_of, view_at, statements_before, target_key, cts_of, wrote_at, wrote_among, wrote_before}
 use Rattle.mp_script.specs.WentDown.{is_stopped}
+use Rattle.mp_script.proofs.Options.{some_is, not_some}
+use Rattle.mp_script.proofs.Looking.{line_is}
+use Rattle.mp_script.proofs.ReplyForms.{target_same, shows_cts}
+use Rattle.mp_script.proofs.AmongWrites.{one_wrote}
 use Rattle.mp_cells.specs.declared.rows.Row.{Row}
 use Rattle.mp_core_trx.specs.declared.part.Begun.{Begun}
 use Rattle.mp_core_trx.specs.declared.part.Draw.{Draw}
 use Rattle.mp_core_trx.specs.Parts.{begun_of, draw_of}
 use Rattle.mp_core_trx.specs.World.{begun_in}
-use Rattle.mp_histories.proofs.Writers.{decided}
 use Rattle.mp_core.specs.declared.opening.CoreOpening.{CoreOpening}
 use Rattle.mp_core.specs.World.{CoreWorld, core_part}
 use Rattle.mp_core.specs.OwnMtrs.{row_kept_by, row_restored_by, commit_by_mtr, TrxMtr}
@@ -35,43 +36,14 @@ use Rattle.mp_verdict.specs.Finished.{Finished}
 use Rattle.mp_verdict.specs.Told.{IsToldBy}
 use Rattle.mp_verdict.specs.Reads.{PutOf}
 use Rattle.mp_verdict.specs.WriteOrder.{PutsOverSettled, IsWholeBelow}
-use Rattle.mp_verdict.specs.Writers.{WroteKey, IsWriter}
-use Rattle.mp_verdict.proofs.Options.{some_is, not_some}
+use Rattle.mp_verdict.specs.Writers.{IsWriter}
 use Rattle.mp_verdict.proofs.PlacesOf.{put_of, of_its_node}
-use Rattle.mp_verdict.proofs.ScriptLines.{line_is}
 use Rattle.mp_verdict.proofs.WhichTraces.{which_mtr, IsPutBy}
 use Rattle.mp_verdict.proofs.KeptOrder.{answer_of, entry_of_mtr, mtrs_up}
-use Rattle.mp_verdict.proofs.ToldAnswers.{IsKeptBy, supported, kept_answer, one_answer, view_is, wrote_is, stmt_here, target_same}
+use Rattle.mp_verdict.proofs.ToldAnswers.{IsKeptBy, supported, kept_answer, one_answer, view_is, wrote_is, stmt_here}
 use Rattle.mp_verdict.proofs.WriterOf.{wrote_put, writer_is}
 use Rattle.mp_verdict.proofs.Telling.{node_of_mtr}
-
--- which replies show a commit's number
-shows_cts : (reply : Reply) (number : ℕ) → cts_of reply ≡ Some number → (reply ≡ Committed number) ⊎ (reply ≡ Unknown number)
-shows_cts (Began view) number e = absurd (not_some number e)
-shows_cts (Got value) number e = absurd (not_some number e)
-shows_cts (Scanned rows) number e = absurd (not_some number e)
-shows_cts (Wrote verb) number e = absurd (not_some number e)
-shows_cts (Committed cts) number e = inl (ap (λ (c : ℕ). Committed c) (some_is cts number e))
-shows_cts CommittedNone number e = absurd (not_some number e)
-shows_cts (Unknown cts) number e = inr (ap (λ (c : ℕ). Unknown c) (some_is cts number e))
-shows_cts RolledBack number e = absurd (not_some number e)
-shows_cts (Conflict verb cts) number e = absurd (not_some number e)
-shows_cts (Held verb name) number e = absurd (not_some number e)
-shows_cts (Full verb) number e = absurd (not_some number e)
-shows_cts Skipped number e = absurd (not_some number e)
-shows_cts (Stopped by) number e = absurd (not_some number e)
-
--- a key that was written among the first statements was written by one of them
-pub numbered_so : (key : ℕ) (x : Option ℕ) → is_number key x ≡ true → x ≡ Some key
-numbered_so key None e = absurd (false≢true e)
-numbered_so key (Some other) e = ap (λ (k : ℕ). Some k) (eqb-true other key e)
-
-pub one_wrote : (run : Execution) (trx : TrxName) (count key : ℕ) → wrote_among run trx count key ≡ true → (i : ℕ) × (i < count) × WroteKey run trx i key
-one_wrote run trx zero key e = absurd (false≢true e)
-one_wrote run trx (suc count) key e = elim (decided (wrote_among run trx count key)) [
-  | inl t ↦ let rest = one_wrote run trx count key t in let lt = rest.1 in (rest.0, omega (arith, lt), rest.2)
-  | inr t ↦ (count, omega arith, numbered_so key (wrote_at run trx.session (trx.first + suc count)) (sym (ap (λ (b : Bool). b || is_number key (wrote_at run trx.session (trx.first + suc count))) t) ∙ e))
-]
+use Rattle.mp_verdict.proofs.NextInOrder.{next_in_order}
 
 module _ (script : Script) (spelled : IsSpelled script) (work : Work) (opening : Opening) (o : CoreOpening) (w : CoreWorld) (down : ℕ → ℕ) (entries : ℕ → List Entry) (downs : List Down)
     (f : Finished work script opening o w down entries downs) (run : Execution) (told : IsToldBy work opening o entries downs run) where
@@ -165,8 +137,8 @@ module _ (script : Script) (spelled : IsSpelled script) (work : Work) (opening :
   puts_over id view begun m row there of puts =
       let n = node_of_mtr script spelled work opening o w down entries downs f run told id.node m there in
       let only = put_of o w f.facts id.node m row there puts in
-      let x = entry_of_mtr work o w f.facts id.node (down id.node) (entries id.node) (f.kept id.node n) (f.all id.node n) (f.in_order id.node n) m there only.restored in
-      let a = answer_of work o w f.facts id.node (down id.node) (entries id.node) (f.kept id.node n) (f.all id.node n) (f.in_order id.node n) x.0 x.1 in
+      let x = entry_of_mtr work o w f.facts id.node (down id.node) (entries id.node) (f.kept id.node n) (f.all id.node n) (next_in_order script spelled work opening o w down entries downs f id.node n) m there only.restored in
+      let a = answer_of work o w f.facts id.node (down id.node) (entries id.node) (f.kept id.node n) (f.all id.node n) (next_in_order script spelled work opening o w down entries downs f id.node n) x.0 x.1 in
       let kept : IsKeptBy script spelled work opening o w down entries downs f run told id.node x.0 a.0 = record { node = n; there = x.1; is = a.1 } in
       let s = supported script spelled work opening o w down entries downs f run told id.node x.0 a.0 kept in
       let no_commit : (d : Draw) → commit_by_mtr m.mtr ≡ Some d → ⊥ = λ d is. not_some d (sym only.commit ∙ is) in
@@ -200,9 +172,9 @@ module _ (script : Script) (spelled : IsSpelled script) (work : Work) (opening :
     its_writes =
         let n = c.kept.node in
         writer_is script spelled work opening o w down entries downs f run told id c.view c.entry a c.kept c.line c.found c.trx c.mtr.at
-        (λ x m above made. mtrs_up work o w f.facts id.node (down id.node) (entries id.node) (f.kept id.node n) (f.all id.node n) (f.in_order id.node n) x c.entry m c.mtr above made c.made)
+        (λ x m above made. mtrs_up work o w f.facts id.node (down id.node) (entries id.node) (f.kept id.node n) (f.all id.node n) (next_in_order script spelled work opening o w down entries downs f id.node n) x c.entry m c.mtr above made c.made)
         c.up
-        (λ x m above made. let lt = mtrs_up work o w f.facts id.node (down id.node) (entries id.node) (f.kept id.node n) (f.all id.node n) (f.in_order id.node n) c.entry x c.mtr m above c.made made in omega (arith, lt))
+        (λ x m above made. let lt = mtrs_up work o w f.facts id.node (down id.node) (entries id.node) (f.kept id.node n) (f.all id.node n) (next_in_order script spelled work opening o w down entries downs f id.node n) c.entry x c.mtr m above c.made made in omega (arith, lt))
         (λ m made. let at : c.mtr.at ≡ m.at = ap (λ (k : TrxMtr). k.at) (some_is c.mtr m (sym c.made ∙ made)) in omega (arith, at))
 
     -- where its transaction wrote the key before it, it put a row of the key

@@ -6,6 +6,7 @@ use Rattle.std.proofs.lemmas.Bool.{eqb-true}
 use Rattle.std.proofs.lemmas.List.{length-append}
 use Rattle.mp_machine.specs.Lists.{IsIn}
 use Rattle.mp_model.specs.declared.ids.TrxId.{TrxId}
+use Rattle.mp_script.proofs.Options.{some_is, not_some}
 use Rattle.mp_cells.specs.declared.records.Mtr.{Mtr}
 use Rattle.mp_cells.specs.declared.rows.Row.{Row}
 use Rattle.mp_cells.specs.Writes.{undo_at}
@@ -30,11 +31,11 @@ use Rattle.mp_core.specs.OwnMtrs.{row_put_by, row_kept_by, commit_by_mtr, TrxMtr
 use Rattle.mp_facts.specs.Facts.{opening_pages, pages_now, pages_at_height, live_at_height, made_in, IsForced, DrewStamp, CommittedStamp, Facts}
 use Rattle.mp_verdict.specs.Reads.{PutBelow, PutOf}
 use Rattle.mp_verdict.specs.WriteOrder.{PutsOverSettled, IsWholeBelow, CommittedBefore}
-use Rattle.mp_verdict.proofs.Options.{some_is, not_some}
 use Rattle.mp_verdict.proofs.PlacesOf.{DoesPut, does, one_newer, put_of, in_its_node, well_here, older_here, older_with}
 use Rattle.mp_verdict.proofs.LastPuts.{Says, put_last_says, never_back}
 use Rattle.mp_verdict.proofs.OthersFit.{forced_drew, drew_once}
-use Rattle.mp_verdict.proofs.ShownChains.{chain_at, runs_at, committed_below}
+use Rattle.mp_supports.proofs.ShownRows.{runs_at}
+use Rattle.mp_verdict.proofs.ShownChains.{chain_at, committed_below}
 
 -- the history around a place
 pub record IsPlacedAt (at : ℕ) (mtr : Mtr) (history : History) : Type 0 where

@@ -1,6 +1,5 @@
 -- The `down` lines of a finished run rise and have their causes, and what is down stays down.
-use Rattle.std.proofs.Common.{◌≡◌, ◌≢◌, ℕ, zero, suc, ◌+◌, ◌<◌, ◌≤◌, ◌==◌, ◌&&◌, ◌||◌, Bool, true, false, cond, List, [], ◌∷◌, refl, sym, ap, subst, ◌∙◌, inl, inr, arith, eq-eqb}
-use mathlib.Core.Bool.{false≢true}
+use Rattle.std.proofs.Common.{◌≡◌, ℕ, ◌==◌, ◌&&◌, true, List, [], refl, sym, subst, ◌∙◌, arith, eq-eqb}
 use Rattle.std.specs.List.{list_any, AllByRecursion}
 use Rattle.std.proofs.lemmas.Bool.{and_from, and_parts}
 use Rattle.mp_machine.specs.Lists.{IsIn}
@@ -12,67 +11,28 @@ use Rattle.mp_model.specs.declared.transcripts.Transcript.{Transcript}
 use Rattle.mp_script.specs.declared.statements.Script.{Script}
 use Rattle.mp_script.specs.declared.statements.SessionOn.{SessionOn}
 use Rattle.mp_script.specs.Below.{EachBelow}
-use Rattle.mp_script.specs.Execution.{Execution, runs_on}
+use Rattle.mp_script.specs.Execution.{Execution, runs_on, is_session_on}
 use Rattle.mp_script.specs.Spelling.{IsSpelled}
 use Rattle.mp_script.specs.WentDown.{DownsRise, HaveTheirCause, same_primary, shows_down, is_stopped, StaysDown}
-use Rattle.mp_histories.proofs.Writers.{decided}
+use Rattle.mp_script.specs.Standing.{StandsAbove}
+use Rattle.mp_script.specs.DownLines.{down_lines}
+use Rattle.mp_script.proofs.Ordered.{above_in, in_flat, from_above_found}
+use Rattle.mp_script.proofs.ItemsAbove.{all_of, each_split, over_above, in_over, last_in}
+use Rattle.mp_script.proofs.DownLines.{line_of_down, lines_rise, line_is_of}
+use Rattle.mp_script.proofs.Looking.{any_in, any_is}
 use Rattle.mp_core.specs.declared.opening.CoreOpening.{CoreOpening}
 use Rattle.mp_core.specs.World.{CoreWorld}
 use Rattle.mp_supports.specs.Work.{Work}
 use Rattle.mp_supports.specs.Kept.{Entry, answers_in}
-use Rattle.mp_verdict.specs.Standing.{StandsAbove}
-use Rattle.mp_verdict.specs.Finished.{is_session_on, down_lines, Finished}
+use Rattle.mp_verdict.specs.Finished.{Finished}
 use Rattle.mp_verdict.specs.Orders.{NodeEntry, entries_given, IsMerged, StepOrder, IsStepTranscript, IsRunTranscript}
 use Rattle.mp_verdict.specs.Told.{IsToldBy}
-use Rattle.mp_verdict.proofs.Ordered.{above_in, in_flat, from_above_found}
 use Rattle.mp_verdict.proofs.KeptOrder.{stopped_below}
 use Rattle.mp_verdict.proofs.ToldAnswers.{IsKeptBy, one_node, on_node, kept_answer, one_entry}
-use Rattle.mp_verdict.proofs.KeyConflicts.{all_of, each_split, over_above, in_over, last_in}
-use Rattle.mp_verdict.proofs.RepliesRight.{line_of_down, any_in}
 use Rattle.mp_verdict.proofs.RunTold.{run_mode, part_node, part_answers, run_told}
 use Rattle.mp_verdict.proofs.StepTold.{step_mode, all_are, step_told, in_its_part}
 use Rattle.mp_verdict.proofs.StepRules.{step_up}
-
-lines_skipped : (down : ℕ → ℕ) (first count : ℕ) → (down first == 0) ≡ true → down_lines down first (suc count) ≡ down_lines down (first + 1) count
-lines_skipped down first count e = ap (λ (b : Bool). cond b (down_lines down (first + 1) count) (record { primary = first; by = down first } ∷ down_lines down (first + 1) count)) e
-
-lines_with : (down : ℕ → ℕ) (first count : ℕ) → (down first == 0) ≡ false → down_lines down first (suc count) ≡ record { primary = first; by = down first } ∷ down_lines down (first + 1) count
-lines_with down first count e = ap (λ (b : Bool). cond b (down_lines down (first + 1) count) (record { primary = first; by = down first } ∷ down_lines down (first + 1) count)) e
-
-lines_rise : (down : ℕ → ℕ) (low first count : ℕ) → low ≤ first → DownsRise low (down_lines down first count)
-lines_rise down low first zero le = tt
-lines_rise down low first (suc count) le = elim (decided (down first == 0)) [
-  | inl e ↦ subst (DownsRise low) (sym (lines_skipped down first count e)) (lines_rise down low (first + 1) count (omega (arith, le)))
-  | inr e ↦ subst (DownsRise low) (sym (lines_with down first count e)) (le, lines_rise down (first + 1) (first + 1) count (omega arith))
-]
-
--- a line is of one of the primaries, which is down, with its number
-record IsLineOf (down : ℕ → ℕ) (first count : ℕ) (line : Down) : Type 0 where
-  low : first ≤ line.primary
-  high : line.primary < first + count
-  by_is : line.by ≡ down line.primary
-  is_down : down line.primary ≢ 0
-
-line_is_of : (down : ℕ → ℕ) (first count : ℕ) (line : Down) → IsIn line (down_lines down first count) → IsLineOf down first count line
-line_is_of down first zero line h = absurd h
-line_is_of down first (suc count) line h = elim (decided (down first == 0)) [
-  | inl e ↦ further (line_is_of down (first + 1) count line (subst (IsIn line) (lines_skipped down first count e) h))
-  | inr e ↦ elim (subst (IsIn line) (lines_with down first count e) h) [
-    | inl same ↦
-        subst (IsLineOf down first (suc count)) (sym same) (record { low = omega arith; high = omega arith; by_is = refl; is_down = λ none. false≢true (sym e ∙ eq-eqb (down first) 0 none) })
-    | inr there ↦ further (line_is_of down (first + 1) count line there)
-  ]
-]
-  where
-    further : IsLineOf down (first + 1) count line → IsLineOf down first (suc count) line
-    further x = let low = x.low in let high = x.high in record { low = omega (arith, low); high = omega (arith, high); by_is = x.by_is; is_down = x.is_down }
-
-any_is : {T : Type 0} (test : T → Bool) (xs : List T) → list_any test xs ≡ true → (x : T) × IsIn x xs × (test x ≡ true)
-any_is test [] e = absurd (false≢true e)
-any_is test (x ∷ xs) e = elim (decided (test x)) [
-  | inl t ↦ (x, inl refl, t)
-  | inr t ↦ let rest = any_is test xs (sym (ap (λ (c : Bool). c || list_any test xs) t) ∙ e) in (rest.0, inr rest.1, rest.2)
-]
+use Rattle.mp_verdict.proofs.NextInOrder.{next_in_order}
 
 module _ (script : Script) (spelled : IsSpelled script) (work : Work) (opening : Opening) (o : CoreOpening) (w : CoreWorld) (down : ℕ → ℕ) (entries : ℕ → List Entry) (downs : List Down)
     (f : Finished work script opening o w down entries downs) (run : Execution) (told : IsToldBy work opening o entries downs run) where
@@ -115,7 +75,7 @@ module _ (script : Script) (spelled : IsSpelled script) (work : Work) (opening :
       let node_b = one_node script spelled work opening o w down entries downs f run told b.session l.0 (on.0).primary (on_node script spelled work opening o w down entries downs f run told l.0 l.1 b l.2) b_on in
       let kept : IsKeptBy script spelled work opening o w down entries downs f run told k.0 l.1 b = subst (λ (i : ℕ). IsKeptBy script spelled work opening o w down entries downs f run told i l.1 b) (node_b ∙ sym node_a) l.2 in
       let n = k.2.node in
-      stopped_below work o w f.facts k.0 (down k.0) (entries k.0) (f.kept k.0 n) (f.all k.0 n) (f.in_order k.0 n) k.1 l.1 a b (ordered.up a b k.0 k.1 l.1 above k.2 kept) k.2.is kept.is both.1
+      stopped_below work o w f.facts k.0 (down k.0) (entries k.0) (f.kept k.0 n) (f.all k.0 n) (next_in_order script spelled work opening o w down entries downs f k.0 n) k.1 l.1 a b (ordered.up a b k.0 k.1 l.1 above k.2 kept) k.2.is kept.is both.1
 
   pub stays : (answers : List Answer) → InNodeOrder answers → EachBelow (StaysDown run) [] answers
   stays answers ordered = each_split (StaysDown run) answers [] answers refl (λ over y rest split any.

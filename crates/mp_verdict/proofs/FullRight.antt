@@ -16,6 +16,10 @@ use Rattle.mp_script.specs.Execution.{Execution, line_at}
 use Rattle.mp_script.specs.Right.{MayBeFull}
 use Rattle.mp_script.specs.Spelling.{IsSpelled}
 use Rattle.mp_script.specs.Transactions.{Target, target_of}
+use Rattle.mp_script.proofs.Options.{some_is, not_some}
+use Rattle.mp_script.proofs.Ordered.{Pairwise, in_filter}
+use Rattle.mp_script.proofs.Looking.{line_is}
+use Rattle.mp_script.proofs.Injecting.{fewer}
 use Rattle.mp_cells.specs.declared.records.Mtr.{Mtr}
 use Rattle.mp_cells.specs.declared.rows.Row.{Row}
 use Rattle.mp_cells.specs.PageView.{PageView, bits_set}
@@ -33,15 +37,12 @@ use Rattle.mp_supports.specs.Supports.{Trace, SupportsReply}
 use Rattle.mp_supports.specs.Kept.{Entry}
 use Rattle.mp_verdict.specs.Finished.{Finished}
 use Rattle.mp_verdict.specs.Told.{IsToldBy}
-use Rattle.mp_verdict.proofs.Options.{some_is, not_some}
-use Rattle.mp_verdict.proofs.Ordered.{Pairwise, in_filter}
 use Rattle.mp_verdict.proofs.PlacesOf.{entry_there, one_newer, put_of}
-use Rattle.mp_verdict.proofs.ScriptLines.{line_is}
 use Rattle.mp_verdict.proofs.WhichTraces.{which_mtr}
 use Rattle.mp_verdict.proofs.KeptOrder.{answer_of, entry_of_mtr}
 use Rattle.mp_verdict.proofs.ToldAnswers.{IsKeptBy, supported, kept_answer, same_node, one_entry}
 use Rattle.mp_verdict.proofs.Telling.{node_of_mtr}
-use Rattle.mp_verdict.proofs.Injecting.{fewer}
+use Rattle.mp_verdict.proofs.NextInOrder.{next_in_order}
 
 abbrev puts_row : Mtr → Bool
 puts_row m = is_some (row_put_by m)
@@ -145,8 +146,8 @@ module _ (script : Script) (spelled : IsSpelled script) (work : Work) (opening :
       let node = node_of_mtr script spelled work opening o w down entries downs f run told n m made.1 in
       let row = some_row (row_put_by m.mtr) (ap (λ (x : Mtr). is_some (row_put_by x)) made.3 ∙ at.2) in
       let only = put_of o w f.facts n m row.0 made.1 row.1 in
-      let x = entry_of_mtr work o w f.facts n (down n) (entries n) (f.kept n node) (f.all n node) (f.in_order n node) m made.1 only.restored in
-      let a = answer_of work o w f.facts n (down n) (entries n) (f.kept n node) (f.all n node) (f.in_order n node) x.0 x.1 in
+      let x = entry_of_mtr work o w f.facts n (down n) (entries n) (f.kept n node) (f.all n node) (next_in_order script spelled work opening o w down entries downs f n node) m made.1 only.restored in
+      let a = answer_of work o w f.facts n (down n) (entries n) (f.kept n node) (f.all n node) (next_in_order script spelled work opening o w down entries downs f n node) x.0 x.1 in
       let kept : IsKeptBy script spelled work opening o w down entries downs f run told n x.0 a.0 = record { node = node; there = x.1; is = a.1 } in
       let s = supported script spelled work opening o w down entries downs f run told n x.0 a.0 kept in
       let no_commit : (d : Draw) → commit_by_mtr m.mtr ≡ Some d → ⊥ = λ d is. not_some d (sym only.commit ∙ is) in

@@ -1,6 +1,6 @@
 -- What a primary kept, in its order: each put and commit is in one entry, mtrs and indexes rise down the entries, and what
 -- an entry made lies between what the others read.
-use Rattle.std.proofs.Common.{◌≡◌, ℕ, ◌+◌, ◌<◌, ◌≤◌, ◌==◌, Bool, true, false, cond, List, [], ◌∷◌, ◌++◌, length, map, filter, reverse, ◌||◌, Option, Some, None, is_some, is_none, refl, sym, ap, subst, ◌∙◌, inl, inr, arith, eq-eqb}
+use Rattle.std.proofs.Common.{◌≡◌, ℕ, ◌+◌, ◌<◌, ◌≤◌, Bool, true, false, List, [], ◌∷◌, ◌++◌, length, reverse, ◌||◌, Option, Some, None, is_some, is_none, refl, sym, ap, subst, ◌∙◌, inl, inr, arith}
 use mathlib.Core.Bool.{false≢true}
 use Rattle.std.specs.Option.{IfSome}
 use Rattle.std.specs.List.{list_any, AllByRecursion}
@@ -8,10 +8,14 @@ use Rattle.mp_machine.specs.Lists.{IsIn}
 use Rattle.mp_model.specs.declared.replies.Answer.{Answer}
 use Rattle.mp_script.specs.Below.{EachBelow, answered}
 use Rattle.mp_script.specs.WentDown.{shows_down, is_stopped}
+use Rattle.mp_script.specs.Standing.{StandsAbove}
+use Rattle.mp_script.specs.Execution.{is_session_on}
+use Rattle.mp_script.proofs.Ordered.{Pairwise, pair_above, in_left, in_right, in_either, in_reverse, pairwise_reverse, in_filter, pairwise_filter, all_in, in_found, from_found, above_found}
+use Rattle.mp_script.proofs.ItemsAbove.{each_pairs, each_all}
+use Rattle.mp_script.proofs.CountedAnswers.{count_more, count_own}
 use Rattle.mp_cells.specs.declared.rows.Row.{Row}
 use Rattle.mp_core_trx.specs.declared.part.Begun.{Begun}
 use Rattle.mp_core_trx.specs.World.{begun_in}
-use Rattle.mp_histories.proofs.Writers.{decided}
 use Rattle.mp_core.specs.declared.opening.CoreOpening.{CoreOpening}
 use Rattle.mp_core.specs.World.{CoreWorld, core_part}
 use Rattle.mp_core.specs.OwnMtrs.{row_restored_by, TrxMtr}
@@ -20,61 +24,7 @@ use Rattle.mp_facts.specs.Facts.{made_in, MtrsFall, Facts}
 use Rattle.mp_supports.specs.Work.{Work}
 use Rattle.mp_supports.specs.Supports.{Supports}
 use Rattle.mp_supports.specs.Kept.{Entry, answers_in, lasting, Precedes, IsInDoubt, Kept}
-use Rattle.mp_verdict.specs.Standing.{StandsAbove}
-use Rattle.mp_verdict.specs.Finished.{is_session_on, IsAnsweredNext}
-use Rattle.mp_verdict.proofs.Ordered.{Pairwise, pair_above, in_left, in_right, in_either, in_reverse, pairwise_reverse, in_filter, pairwise_filter, all_in, in_found, from_found, above_found}
-
-module _ {T : Type 0} where
-  -- what holds of each item and all above it
-  pub each_from : (P : T → T → Type 0) (above xs : List T) → EachBelow (λ over item. AllByRecursion (λ x. P x item) over) above xs → (x y : T) → IsIn x above → IsIn y xs → P x y
-  each_from P above [] each x y h k = absurd k
-  each_from P above (z ∷ zs) each x y h (inl e) = all_in (λ v. P v y) x above (subst (λ (i : T). AllByRecursion (λ v. P v i) above) (sym e) each.0) h
-  each_from P above (z ∷ zs) each x y h (inr k) = each_from P (above ++ z ∷ []) zs each.1 x y (in_left x above (z ∷ []) h) k
-
-  pub each_pairs : (P : T → T → Type 0) (above xs : List T) → EachBelow (λ over item. AllByRecursion (λ x. P x item) over) above xs → Pairwise P xs
-  each_pairs P above [] each = tt
-  each_pairs P above (z ∷ zs) each = (λ y there. each_from P (above ++ z ∷ []) zs each.1 z y (in_right z above (z ∷ []) (inl refl)) there, each_pairs P (above ++ z ∷ []) zs each.1)
-
-  pub each_all : (P : List T → T → Type 0) (above xs : List T) → EachBelow P above xs → (y : T) → IsIn y xs → (over : List T) × P over y
-  each_all P above [] each y h = absurd h
-  each_all P above (z ∷ zs) each y (inl e) = (above, subst (P above) (sym e) each.0)
-  each_all P above (z ∷ zs) each y (inr h) = each_all P (above ++ z ∷ []) zs each.1 y h
-
-answers_here : (session : ℕ) (a : Answer) (answers : List Answer) → (a.session == session) ≡ true → answered session (a ∷ answers) ≡ a.index ∷ answered session answers
-answers_here session a answers e = ap (λ (b : Bool). map (λ (x : Answer). x.index) (cond b (a ∷ filter (λ (x : Answer). x.session == session) answers) (filter (λ (x : Answer). x.session == session) answers))) e
-
-answers_else : (session : ℕ) (a : Answer) (answers : List Answer) → (a.session == session) ≡ false → answered session (a ∷ answers) ≡ answered session answers
-answers_else session a answers e = ap (λ (b : Bool). map (λ (x : Answer). x.index) (cond b (a ∷ filter (λ (x : Answer). x.session == session) answers) (filter (λ (x : Answer). x.session == session) answers))) e
-
-count_more : (session : ℕ) (above : List Answer) (a : Answer) → length (answered session above) ≤ length (answered session (above ++ a ∷ []))
-count_more session [] a = omega arith
-count_more session (x ∷ above) a =
-    let rest = count_more session above a in
-    elim (decided (x.session == session)) [
-      | inl e ↦
-          let here = ap (λ (l : List ℕ). length l) (answers_here session x above e) in
-          let more = ap (λ (l : List ℕ). length l) (answers_here session x (above ++ a ∷ []) e) in
-          omega (arith, here, more, rest)
-      | inr e ↦
-          let here = ap (λ (l : List ℕ). length l) (answers_else session x above e) in
-          let more = ap (λ (l : List ℕ). length l) (answers_else session x (above ++ a ∷ []) e) in
-          omega (arith, here, more, rest)
-    ]
-
-count_own : (above : List Answer) (a : Answer) → length (answered a.session above) + 1 ≤ length (answered a.session (above ++ a ∷ []))
-count_own [] a = let here = ap (λ (l : List ℕ). length l) (answers_here a.session a [] (eq-eqb a.session a.session refl)) in omega (arith, here)
-count_own (x ∷ above) a =
-    let rest = count_own above a in
-    elim (decided (x.session == a.session)) [
-      | inl e ↦
-          let here = ap (λ (l : List ℕ). length l) (answers_here a.session x above e) in
-          let more = ap (λ (l : List ℕ). length l) (answers_here a.session x (above ++ a ∷ []) e) in
-          omega (arith, here, more, rest)
-      | inr e ↦
-          let here = ap (λ (l : List ℕ). length l) (answers_else a.session x above e) in
-          let more = ap (λ (l : List ℕ). length l) (answers_else a.session x (above ++ a ∷ []) e) in
-          omega (arith, here, more, rest)
-    ]
+use Rattle.mp_verdict.proofs.NextInOrder.{IsAnsweredNext}
 
 module _ (work : Work) (n : ℕ) where
   -- each answer's index counts the answers of its session down to it

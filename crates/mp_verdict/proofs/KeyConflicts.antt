@@ -1,23 +1,27 @@
 -- Of two commits of a key the first wins; a write sees the commits of its key that were recorded before; and no write of
 -- another transaction comes between a write and its commit.
-use Rattle.std.proofs.Common.{◌≡◌, ◌≢◌, ◌⊎◌, ℕ, ◌<◌, ◌≤◌, ◌==◌, ◌&&◌, Bool, true, cond, List, [], ◌∷◌, ◌++◌, Option, Some, is_some, refl, sym, ap, subst, ◌∙◌, inl, inr, arith, append_assoc}
+use Rattle.std.proofs.Common.{◌≡◌, ◌≢◌, ℕ, ◌<◌, ◌≤◌, ◌&&◌, true, List, [], Option, Some, is_some, refl, sym, ap, subst, ◌∙◌, inl, inr, arith}
 use Rattle.std.specs.List.{AllByRecursion}
-use Rattle.std.proofs.lemmas.Bool.{cases_lt, eqb-true, and_parts}
+use Rattle.std.proofs.lemmas.Bool.{cases_lt, and_parts}
 use Rattle.mp_machine.specs.Lists.{IsIn}
 use Rattle.mp_model.specs.declared.histories.Opening.{Opening}
 use Rattle.mp_model.specs.declared.ids.TrxId.{TrxId}
 use Rattle.mp_model.specs.declared.ids.TrxName.{TrxName}
 use Rattle.mp_model.specs.declared.replies.Answer.{Answer}
-use Rattle.mp_model.specs.declared.replies.Reply.{Reply}
-use Rattle.mp_model.specs.declared.replies.Reply.TheVariants.{Began, Got, Scanned, Wrote, Committed, CommittedNone, Unknown, RolledBack, Conflict, Held, Full, Skipped, Stopped}
 use Rattle.mp_model.specs.declared.transcripts.Down.{Down}
 use Rattle.mp_script.specs.declared.statements.Line.{Line}
 use Rattle.mp_script.specs.declared.statements.Script.{Script}
-use Rattle.mp_script.specs.Below.{EachBelow, from_first}
+use Rattle.mp_script.specs.Below.{EachBelow}
 use Rattle.mp_script.specs.Conflicts.{AcknowledgesKey, FirstCommitterWins, SeesEarlierCommits, since_first_write, HoldsItsKeys}
-use Rattle.mp_script.specs.Execution.{Execution, line_at}
+use Rattle.mp_script.specs.Execution.{Execution, line_at, is_session_on}
 use Rattle.mp_script.specs.Spelling.{IsSpelled}
-use Rattle.mp_script.specs.Transactions.{trx_of, view_at, same_trx, cts_of, acknowledged_cts, is_number, wrote_at}
+use Rattle.mp_script.specs.Transactions.{trx_of, view_at, same_trx, acknowledged_cts, is_number, wrote_at}
+use Rattle.mp_script.specs.Standing.{StandsAbove}
+use Rattle.mp_script.proofs.Options.{some_is}
+use Rattle.mp_script.proofs.Ordered.{above_in}
+use Rattle.mp_script.proofs.ReplyForms.{numbered_so, same_trx_is, acknowledged_shows}
+use Rattle.mp_script.proofs.ItemsAbove.{all_of, each_split, last_in, over_above, in_over, still_above}
+use Rattle.mp_script.proofs.CountedAnswers.{from_first_is}
 use Rattle.mp_cells.specs.declared.rows.Row.{Row}
 use Rattle.mp_core_trx.specs.declared.part.Draw.{Draw}
 use Rattle.mp_core_trx.specs.Parts.{begun_of, draw_of}
@@ -31,87 +35,15 @@ use Rattle.mp_core.specs.OwnMtrs.{row_put_by, TrxMtr}
 use Rattle.mp_supports.specs.Work.{Work, name_of}
 use Rattle.mp_supports.specs.Supports.{IsTrxOf}
 use Rattle.mp_supports.specs.Kept.{Entry}
-use Rattle.mp_verdict.specs.Standing.{StandsAbove}
-use Rattle.mp_verdict.specs.Finished.{is_session_on, Finished}
+use Rattle.mp_verdict.specs.Finished.{Finished}
 use Rattle.mp_verdict.specs.Told.{IsToldBy}
 use Rattle.mp_verdict.specs.Reads.{PutOf}
 use Rattle.mp_verdict.specs.WriteOrder.{CommittedBefore}
-use Rattle.mp_verdict.proofs.Options.{some_is, not_some}
-use Rattle.mp_verdict.proofs.Ordered.{above_in}
 use Rattle.mp_verdict.proofs.PlacesOf.{put_of}
 use Rattle.mp_verdict.proofs.OthersFit.{forced_drew, drew_once}
 use Rattle.mp_verdict.proofs.Covering.{covered}
 use Rattle.mp_verdict.proofs.ToldAnswers.{IsKeptBy, one_node, on_node, one_trx}
-use Rattle.mp_verdict.proofs.CommitEntries.{IsRecordEntry, record_entry, IsPutEntry, put_entry, put_of_entry, name_by, view_by, puts_over, ends_at, whole_of, wrote_put_of, numbered_so}
-
--- ---- lists of answers, from the first on
-
-pub all_of : {T : Type 0} (P : T → Type 0) (xs : List T) → ((x : T) → IsIn x xs → P x) → AllByRecursion P xs
-all_of P [] h = tt
-all_of P (x ∷ xs) h = (h x (inl refl), all_of P xs (λ y there. h y (inr there)))
-
-pub each_split : {T : Type 0} (P : List T → T → Type 0) (whole above xs : List T) → whole ≡ above ++ xs → ((over : List T) (y : T) (rest : List T) → whole ≡ over ++ y ∷ rest → P over y) → EachBelow P above xs
-each_split P whole above [] e h = tt
-each_split P whole above (x ∷ xs) e h = (h above x xs e, each_split P whole (above ++ x ∷ []) xs (e ∙ sym (append_assoc above (x ∷ []) xs)) h)
-
-pub last_in : {T : Type 0} (over : List T) (y : T) (rest : List T) → IsIn y (over ++ y ∷ rest)
-last_in [] y rest = inl refl
-last_in (z ∷ over) y rest = inr (last_in over y rest)
-
-pub over_above : {T : Type 0} (over : List T) (y : T) (rest : List T) (x : T) → IsIn x over → StandsAbove x y (over ++ y ∷ rest)
-over_above [] y rest x h = absurd h
-over_above (z ∷ over) y rest x (inl e) = inl (sym e, last_in over y rest)
-over_above (z ∷ over) y rest x (inr h) = inr (over_above over y rest x h)
-
-pub in_over : {T : Type 0} (over : List T) (y : T) (rest : List T) (x : T) → IsIn x over → IsIn x (over ++ y ∷ rest)
-in_over [] y rest x h = absurd h
-in_over (z ∷ over) y rest x (inl e) = inl e
-in_over (z ∷ over) y rest x (inr h) = inr (in_over over y rest x h)
-
-still_above : {T : Type 0} (over : List T) (y : T) (rest : List T) (x z : T) → StandsAbove x z over → StandsAbove x z (over ++ y ∷ rest)
-still_above [] y rest x z h = absurd h
-still_above (k ∷ over) y rest x z (inl h) = inl (h.0, in_over over y rest z h.1)
-still_above (k ∷ over) y rest x z (inr h) = inr (still_above over y rest x z h)
-
-same_trx_is : (a b : TrxName) → same_trx a b ≡ true → a ≡ b
-same_trx_is a b e =
-    let both = and_parts (a.session == b.session) (a.first == b.first) e in
-    ap (λ (s : ℕ). record { session = s; first = a.first }) (eqb-true a.session b.session both.0) ∙ ap (λ (n : ℕ). record { session = b.session; first = n }) (eqb-true a.first b.first both.1)
-
--- what is among those from the first that passes on is the first, or stands below it
-from_first_is : (test : Answer → Bool) (answers : List Answer) (x : Answer) → IsIn x (from_first test answers) → (first : Answer) × (test first ≡ true) × IsIn first answers × ((first ≡ x) ⊎ StandsAbove first x answers)
-from_first_is test [] x h = absurd h
-from_first_is test (a ∷ answers) x h = elim (decided (test a)) [
-  | inl t ↦ elim (subst (IsIn x) (ap (λ (b : Bool). cond b (a ∷ answers) (from_first test answers)) t) h) [
-    | inl e ↦ (a, t, inl refl, inl (sym e))
-    | inr there ↦ (a, t, inl refl, inr (inl (refl, there)))
-  ]
-  | inr t ↦
-      let rest = from_first_is test answers x (subst (IsIn x) (ap (λ (b : Bool). cond b (a ∷ answers) (from_first test answers)) t) h) in (
-        rest.0,
-        rest.1,
-        inr rest.2,
-        elim rest.3 [
-          | inl e ↦ inl e
-          | inr above ↦ inr (inr above)
-        ],
-      )
-]
-
-acknowledged_shows : (reply : Reply) (number : ℕ) → acknowledged_cts reply ≡ Some number → cts_of reply ≡ Some number
-acknowledged_shows (Began view) number e = absurd (not_some number e)
-acknowledged_shows (Got value) number e = absurd (not_some number e)
-acknowledged_shows (Scanned rows) number e = absurd (not_some number e)
-acknowledged_shows (Wrote verb) number e = absurd (not_some number e)
-acknowledged_shows (Committed cts) number e = e
-acknowledged_shows CommittedNone number e = absurd (not_some number e)
-acknowledged_shows (Unknown cts) number e = absurd (not_some number e)
-acknowledged_shows RolledBack number e = absurd (not_some number e)
-acknowledged_shows (Conflict verb cts) number e = absurd (not_some number e)
-acknowledged_shows (Held verb name) number e = absurd (not_some number e)
-acknowledged_shows (Full verb) number e = absurd (not_some number e)
-acknowledged_shows Skipped number e = absurd (not_some number e)
-acknowledged_shows (Stopped by) number e = absurd (not_some number e)
+use Rattle.mp_verdict.proofs.CommitEntries.{IsRecordEntry, record_entry, IsPutEntry, put_entry, put_of_entry, name_by, view_by, puts_over, ends_at, whole_of, wrote_put_of}
 
 module _ (script : Script) (spelled : IsSpelled script) (work : Work) (opening : Opening) (o : CoreOpening) (w : CoreWorld) (down : ℕ → ℕ) (entries : ℕ → List Entry) (downs : List Down)
     (f : Finished work script opening o w down entries downs) (run : Execution) (told : IsToldBy work opening o entries downs run) where

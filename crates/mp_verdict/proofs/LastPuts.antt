@@ -3,6 +3,7 @@ use Rattle.std.proofs.Common.{◌≡◌, ◌≢◌, ℕ, suc, ◌<◌, ◌≤◌
 use Rattle.std.proofs.lemmas.Bool.{cases_lt}
 use Rattle.mp_machine.specs.Lists.{IsIn}
 use Rattle.mp_model.specs.declared.ids.TrxId.{TrxId}
+use Rattle.mp_script.proofs.Options.{some_is, not_some}
 use Rattle.mp_cells.specs.declared.records.Mtr.{Mtr}
 use Rattle.mp_cells.specs.declared.rows.Row.{Row}
 use Rattle.mp_histories.specs.KeyOps.{KeyOp, put, same_writer, is_top, put_last, NeverBack}
@@ -13,7 +14,6 @@ use Rattle.mp_core.specs.World.{CoreWorld}
 use Rattle.mp_core.specs.OwnMtrs.{row_put_by, row_restored_by, TrxMtr}
 use Rattle.mp_facts.specs.Facts.{opening_pages, made_in, Facts}
 use Rattle.mp_verdict.specs.Reads.{PutBelow, LastPutBelow, PutsNothingBelow}
-use Rattle.mp_verdict.proofs.Options.{some_is, not_some}
 use Rattle.mp_verdict.proofs.PlacesOf.{DoesPut, DoesRestore, DoesNothing, does, one_newer, put_of, in_its_node, made_here, maker, well_here, older_here}
 
 last-same : (u : Option TrxId) (v : Version) (ops : List (KeyOp Version)) → same_writer (by_version v) u ≡ true → put_last by_version u (put v ∷ ops) ≡ Some v

@@ -15,6 +15,13 @@ use Rattle.mp_script.specs.Execution.{Execution}
 use Rattle.mp_script.specs.Numbered.{IsFreeNumber, AreNumbered, IfBegan, IfShowsView, CoversAbove, IsRightView}
 use Rattle.mp_script.specs.Spelling.{IsSpelled}
 use Rattle.mp_script.specs.Transactions.{cts_of}
+use Rattle.mp_script.specs.Standing.{StandsAbove}
+use Rattle.mp_script.specs.Answers.{AreApartAnswers}
+use Rattle.mp_script.proofs.Options.{some_is, not_some}
+use Rattle.mp_script.proofs.Ordered.{above_or, above_in, pair_above, in_reverse, in_found, from_found, from_above_found}
+use Rattle.mp_script.proofs.DistinctNumbers.{AreApart, as_many}
+use Rattle.mp_script.proofs.ItemsAbove.{each_split, all_of, last_in, over_above, pairs_by}
+use Rattle.mp_script.proofs.CountedAnswers.{apart_pairs}
 use Rattle.mp_core_trx.specs.declared.part.Draw.{Draw}
 use Rattle.mp_core_trx.specs.Parts.{begun_of, draw_of}
 use Rattle.mp_core_trx.specs.World.{drawn_in}
@@ -25,28 +32,15 @@ use Rattle.mp_core.specs.declared.part.CorePart.{CorePart}
 use Rattle.mp_supports.specs.Work.{Work}
 use Rattle.mp_supports.specs.Supports.{Trace, no_trace, looked_trace, began_trace, wrote_trace, SupportsReply}
 use Rattle.mp_supports.specs.Kept.{Entry}
-use Rattle.mp_verdict.specs.Standing.{StandsAbove}
-use Rattle.mp_verdict.specs.Counting.{CountsCommits, AreApartAnswers}
+use Rattle.mp_verdict.specs.Counting.{CountsCommits}
 use Rattle.mp_verdict.specs.Finished.{Finished}
 use Rattle.mp_verdict.specs.Told.{IsToldBy}
-use Rattle.mp_verdict.proofs.Options.{some_is, not_some}
-use Rattle.mp_verdict.proofs.Ordered.{Pairwise, above_or, above_in, pair_above, in_reverse, in_found, from_found, from_above_found}
-use Rattle.mp_verdict.proofs.DistinctNumbers.{AreApart, as_many}
 use Rattle.mp_verdict.proofs.KeptOrder.{answer_of, mtrs_up}
 use Rattle.mp_verdict.proofs.ToldAnswers.{IsKeptBy, supported, kept_answer, in_run}
 use Rattle.mp_verdict.proofs.Telling.{base_is}
 use Rattle.mp_verdict.proofs.CommitEntries.{IsRecordEntry, record_entry, view_by}
 use Rattle.mp_verdict.proofs.ReadsRight.{view_bounds}
-use Rattle.mp_verdict.proofs.KeyConflicts.{each_split, all_of, last_in, over_above}
-
--- what holds of each two items, one above the other, holds pairwise
-pub pairs_by : {T : Type 0} (P : T → T → Type 0) (xs : List T) → ((x y : T) → StandsAbove x y xs → P x y) → Pairwise P xs
-pairs_by P [] h = tt
-pairs_by P (x ∷ xs) h = (λ y there. h x y (inl (refl, there)), pairs_by P xs (λ a b above. h a b (inr above)))
-
-apart_pairs : (answers : List Answer) → AreApartAnswers answers → Pairwise (λ (x y : Answer). x.session ≡ y.session → x.index ≢ y.index) answers
-apart_pairs [] a = tt
-apart_pairs (x ∷ answers) a = (a.0, apart_pairs answers a.1)
+use Rattle.mp_verdict.proofs.NextInOrder.{next_in_order}
 
 -- a draw in the trace of an answer is shown by it
 which_draw : (work : Work) (p : CorePart) (trace : Trace) (line : Line) (down : ℕ) (reply : Reply) (d : Draw) → SupportsReply work p down trace line reply → trace.drew ≡ Some d → cts_of reply ≡ Some d.cts
@@ -94,10 +88,10 @@ module _ (script : Script) (spelled : IsSpelled script) (work : Work) (opening :
                 let one : a ≡ b = some_is a b (sym c.kept.is ∙ ap (λ (e : Entry). e.answer) same ∙ d.kept.is) in
                 pair_above (λ (x y : Answer). x.session ≡ y.session → x.index ≢ y.index) a b run.answers (apart_pairs run.answers apart) above (ap (λ (x : Answer). x.session) one) (ap (λ (x : Answer). x.index) one)
             | inr (inl up) ↦
-                let lt = mtrs_up work o w f.facts id.node (down id.node) (entries id.node) (f.kept id.node k) (f.all id.node k) (f.in_order id.node k) c.entry d.entry c.mtr d.mtr up c.made d.made in
+                let lt = mtrs_up work o w f.facts id.node (down id.node) (entries id.node) (f.kept id.node k) (f.all id.node k) (next_in_order script spelled work opening o w down entries downs f id.node k) c.entry d.entry c.mtr d.mtr up c.made d.made in
                 absurd (omega (arith, lt, down_to))
             | inr (inr low) ↦
-                let lt = mtrs_up work o w f.facts id.node (down id.node) (entries id.node) (f.kept id.node k) (f.all id.node k) (f.in_order id.node k) d.entry c.entry d.mtr c.mtr low d.made c.made in
+                let lt = mtrs_up work o w f.facts id.node (down id.node) (entries id.node) (f.kept id.node k) (f.all id.node k) (next_in_order script spelled work opening o w down entries downs f id.node k) d.entry c.entry d.mtr c.mtr low d.made c.made in
                 absurd (omega (arith, lt, upto))
           ]
 
@@ -112,7 +106,7 @@ module _ (script : Script) (spelled : IsSpelled script) (work : Work) (opening :
       let d = f.facts.inv.trx.draws.none_missing n low high in
       let node = node_of_draw d.0 (draw_of d.1 n) d.2 in
       let e = from_found (λ (x : Entry). x.trace.drew) (entries d.0) (draw_of d.1 n) (subst (IsIn (draw_of d.1 n)) (sym (f.kept d.0 node).drew) (in_reverse (draw_of d.1 n) (drawn_in w.trx d.0) d.2)) in
-      let a = answer_of work o w f.facts d.0 (down d.0) (entries d.0) (f.kept d.0 node) (f.all d.0 node) (f.in_order d.0 node) e.0 e.1 in
+      let a = answer_of work o w f.facts d.0 (down d.0) (entries d.0) (f.kept d.0 node) (f.all d.0 node) (next_in_order script spelled work opening o w down entries downs f d.0 node) e.0 e.1 in
       let kept : IsKeptBy script spelled work opening o w down entries downs f run told d.0 e.0 a.0 = record { node = node; there = e.1; is = a.1 } in
       let s = supported script spelled work opening o w down entries downs f run told d.0 e.0 a.0 kept in
       in_found (λ (x : Answer). cts_of x.reply) a.0 run.answers n (in_run script spelled work opening o w down entries downs f run told d.0 e.0 a.0 kept)

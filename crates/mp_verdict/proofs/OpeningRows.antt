@@ -13,6 +13,7 @@ use Rattle.mp_cells.proofs.Spare.{content_of}
 use Rattle.std.proofs.lemmas.Bool.{eqb-true}
 use Rattle.mp_model.specs.declared.key_value.KeyValue.{KeyValue}
 use Rattle.mp_model.specs.Folded.{value_at, KeysAscend}
+use Rattle.mp_verdict.proofs.RisingRows.{RowsRise, rise_ascend, rise_below, none_below}
 use Rattle.mp_cells.specs.declared.rows.Row.{Row}
 use Rattle.mp_cells.specs.Trees.{PageMap, IsTree, root, Fits, leaves, rows_under, row_at, height_of, rows_in, top}
 use Rattle.mp_cells.specs.Writes.{version_of}
@@ -21,7 +22,6 @@ use Rattle.mp_cells.proofs.TreeSearch.{InRange, root_range, tree_rows_rise}
 use Rattle.mp_histories.specs.Chains.{row_of_key}
 use Rattle.mp_histories.proofs.Writers.{decided}
 use Rattle.mp_supports.specs.Seeing.{key_value_of}
-use Rattle.mp_verdict.proofs.RisingRows.{RowsRise, RowsAscend, none_below}
 
 -- the rows with values of some rows of pages
 abbrev pub valued_rows : List Row → List KeyValue
@@ -52,14 +52,6 @@ valued_at key low high (row ∷ rows) r = elim (decided (row.key == key)) [
     past : (value : Option (List ℕ)) → (row.key == key) ≡ false → value_at key (key_value_of row.key value ++ valued_rows rows) ≡ value_at key (valued_rows rows)
     past (Some value) e = ap (λ (b : Bool). cond b (Some value) (value_at key (valued_rows rows))) e
     past None e = refl
-
-rise_ascend : (low high : ℕ) (rows : List KeyValue) → RowsRise low high rows → RowsAscend low rows
-rise_ascend low high [] r = tt
-rise_ascend low high (row ∷ rows) r = (r.0, rise_ascend (row.key + 1) high rows r.2)
-
-rise_below : (low high : ℕ) (rows : List KeyValue) → RowsRise low high rows → AllByRecursion (λ row. row.key < high) rows
-rise_below low high [] r = tt
-rise_below low high (row ∷ rows) r = (r.1, rise_below (row.key + 1) high rows r.2)
 
 valued_range : (rows : List Row) → AllByRecursion IsRow rows → AllByRecursion IsRowInRange (valued_rows rows)
 valued_range [] all = tt

@@ -5,6 +5,7 @@ use mathlib.Core.Bool.{false≢true}
 use Rattle.mp_machine.specs.Lists.{IsIn}
 use Rattle.mp_machine.proofs.Lists.{same_item}
 use Rattle.mp_model.specs.declared.ids.TrxId.{TrxId}
+use Rattle.mp_script.proofs.Options.{some_is}
 use Rattle.mp_cells.specs.declared.records.Mtr.{Mtr}
 use Rattle.mp_core_trx.specs.declared.part.Draw.{Draw}
 use Rattle.mp_core_trx.specs.Parts.{draw_of}
@@ -18,7 +19,6 @@ use Rattle.mp_core.specs.declared.opening.CoreOpening.{CoreOpening}
 use Rattle.mp_core.specs.World.{CoreWorld}
 use Rattle.mp_core.specs.OwnMtrs.{row_put_by, commit_by_mtr, TrxMtr}
 use Rattle.mp_facts.specs.Facts.{opening_pages, live_at_height, made_in, IsForced, DrewStamp, CommittedStamp, Facts}
-use Rattle.mp_verdict.proofs.Options.{some_is}
 use Rattle.mp_verdict.proofs.PlacesOf.{DoesPut, does, one_newer, well_here, older_with}
 
 module _ (o : CoreOpening) (w : CoreWorld) (facts : Facts o w) where

@@ -6,6 +6,7 @@ use Rattle.std.proofs.lemmas.List.{length-append}
 use mathlib.Core.Bool.{false≢true}
 use Rattle.mp_machine.specs.Lists.{IsIn}
 use Rattle.mp_model.specs.declared.ids.TrxId.{TrxId}
+use Rattle.mp_script.proofs.Options.{some_is, not_some}
 use Rattle.mp_cells.specs.declared.records.Mtr.{Mtr}
 use Rattle.mp_cells.specs.declared.records.Record.{Record}
 use Rattle.mp_cells.specs.declared.rows.Row.{Row}
@@ -23,7 +24,6 @@ use Rattle.mp_core.specs.declared.opening.CoreOpening.{CoreOpening}
 use Rattle.mp_core.specs.World.{CoreWorld}
 use Rattle.mp_core.specs.OwnMtrs.{row_put_by, row_restored_by, TrxMtr}
 use Rattle.mp_facts.specs.Facts.{opening_pages, made_in, IsPutOf, Facts}
-use Rattle.mp_verdict.proofs.Options.{some_is, not_some}
 
 -- the mtr puts a row of the key
 pub record DoesPut (key : ℕ) (mtr : Mtr) (made : History) : Type 0 where

@@ -4,6 +4,7 @@ use mathlib.Core.Bool.{false≢true}
 use Rattle.std.proofs.lemmas.Bool.{cases_lt}
 use Rattle.mp_machine.specs.Lists.{IsIn}
 use Rattle.mp_model.specs.declared.ids.TrxId.{TrxId}
+use Rattle.mp_script.proofs.Options.{some_is}
 use Rattle.mp_cells.specs.declared.rows.Row.{Row}
 use Rattle.mp_cells.specs.PageView.{PageView}
 use Rattle.mp_core_trx.specs.declared.part.Draw.{Draw}
@@ -23,11 +24,11 @@ use Rattle.mp_core.specs.OwnMtrs.{row_put_by, row_restored_by, TrxMtr}
 use Rattle.mp_facts.specs.Facts.{opening_pages, made_in, IsForced, DrewStamp, Facts}
 use Rattle.mp_supports.specs.Seeing.{HasOnlyPut, Sees}
 use Rattle.mp_verdict.specs.Reads.{PutBelow, LastPutBelow, PutsNothingBelow, PutOf, IsLatestCommit, NoCommitPut, ShowsReader}
-use Rattle.mp_verdict.proofs.Options.{some_is}
 use Rattle.mp_verdict.proofs.PlacesOf.{put_of}
 use Rattle.mp_verdict.proofs.LastPuts.{Says, put_last_says, never_back}
 use Rattle.mp_verdict.proofs.OthersFit.{forced_drew, OthersCommitted, others_stamps, reader_not, others_fit}
-use Rattle.mp_verdict.proofs.ShownChains.{chain_at, written_at, newest_row, IsTaken, row_or, walked}
+use Rattle.mp_supports.proofs.ShownRows.{newest_row}
+use Rattle.mp_verdict.proofs.ShownChains.{chain_at, written_at, IsTaken, row_or, walked}
 
 module _ (o : CoreOpening) (w : CoreWorld) (facts : Facts o w) where
   -- nothing of a transaction whose commit is recorded was put back

@@ -5,13 +5,11 @@ use Rattle.std.specs.List.{AllByRecursion}
 use Rattle.std.proofs.lemmas.Bool.Decides.{nat_tests}
 use Rattle.mp_machine.specs.Lists.{IsIn}
 use Rattle.mp_model.specs.Listed.{Listed}
-use Rattle.mp_model.specs.Folded.{written, over, writes_up_to, value_at, KeysAscend}
-use Rattle.mp_model.proofs.Edits.{written_ascends}
+use Rattle.mp_model.specs.Folded.{over, writes_up_to, value_at, KeysAscend}
 use Rattle.mp_model.specs.declared.histories.Opening.{Opening}
 use Rattle.mp_model.specs.declared.ids.TrxId.{TrxId}
 use Rattle.mp_model.specs.declared.ids.TrxName.{TrxName}
 use Rattle.mp_model.specs.declared.key_value.KeyValue.{KeyValue}
-use Rattle.mp_model.specs.declared.key_value.KeyWrite.{KeyWrite}
 use Rattle.mp_model.specs.declared.replies.Answer.{Answer}
 use Rattle.mp_model.specs.declared.replies.Reply.{Reply}
 use Rattle.mp_model.specs.declared.replies.Reply.TheVariants.{Got, Scanned}
@@ -25,8 +23,16 @@ use Rattle.mp_script.specs.Spelling.{IsSpelled}
 use Rattle.mp_script.specs.SpelledLines.{IsLineInRange, IsRowInRange}
 use Rattle.mp_script.specs.Transactions.{trx_in_lines, statements_before, view_of}
 use Rattle.mp_script.specs.WentDown.{is_stopped}
+use Rattle.mp_script.specs.Standing.{StandsAbove}
+use Rattle.mp_script.specs.Answers.{IsReadReply}
+use Rattle.mp_script.specs.LastValues.{first_writes}
 use Rattle.mp_script.proofs.Lists.{all_map}
 use Rattle.mp_script.proofs.SeenRows.{seen_within}
+use Rattle.mp_script.proofs.Options.{some_is, not_some}
+use Rattle.mp_script.proofs.Ordered.{all_in}
+use Rattle.mp_script.proofs.Looking.{line_is}
+use Rattle.mp_script.proofs.ScriptLines.{lines_within}
+use Rattle.mp_script.proofs.RisingRows.{over_ascends}
 use Rattle.mp_cells.specs.declared.rows.Row.{Row}
 use Rattle.mp_cells.specs.PageView.{PageView}
 use Rattle.mp_cells.specs.Trees.{top}
@@ -41,27 +47,19 @@ use Rattle.mp_supports.specs.Work.{Work, name_of}
 use Rattle.mp_supports.specs.Seeing.{Sees, ScansTo}
 use Rattle.mp_supports.specs.Supports.{Trace, IsTrxOf, SupportsTrxReply, SupportsReply}
 use Rattle.mp_supports.specs.Kept.{Entry}
-use Rattle.mp_verdict.specs.Standing.{StandsAbove}
-use Rattle.mp_verdict.specs.Counting.{CountsCommits, IsReadReply}
+use Rattle.mp_verdict.specs.Counting.{CountsCommits}
 use Rattle.mp_verdict.specs.Finished.{Finished}
 use Rattle.mp_verdict.specs.Told.{IsToldBy}
-use Rattle.mp_verdict.specs.LastValues.{first_writes}
 use Rattle.mp_verdict.specs.Reads.{ShowsReader}
-use Rattle.mp_verdict.proofs.Options.{some_is, not_some}
-use Rattle.mp_verdict.proofs.Ordered.{all_in}
 use Rattle.mp_verdict.proofs.OpeningRows.{opening_ascend, opening_range}
 use Rattle.mp_verdict.proofs.Reading.{read_shows}
 use Rattle.mp_verdict.proofs.Scanning.{scanned}
 use Rattle.mp_verdict.proofs.SeenValues.{seen_values}
-use Rattle.mp_verdict.proofs.ScriptLines.{line_is, lines_within}
 use Rattle.mp_verdict.proofs.KeptOrder.{precedes_of}
 use Rattle.mp_verdict.proofs.ToldAnswers.{IsKeptBy, supported, kept_answer, view_is}
 use Rattle.mp_verdict.proofs.WriterOf.{writer_is, all_under}
 use Rattle.mp_verdict.proofs.Telling.{tells_of, base_is}
-
-over_ascends : (rows : List KeyValue) (writes : List KeyWrite) → KeysAscend rows → KeysAscend (over rows writes)
-over_ascends rows [] a = a
-over_ascends rows (write ∷ writes) a = over_ascends (written rows write) writes (written_ascends rows write 0 (omega arith) a)
+use Rattle.mp_verdict.proofs.NextInOrder.{next_in_order}
 
 seen_upto : (base bound : ℕ) (seen_values : List ℕ) → base ≤ bound → ((v : ℕ) → IsIn v seen_values → v ≤ bound) → greatest_seen base seen_values ≤ bound
 seen_upto base bound [] le all = le
@@ -101,10 +99,10 @@ module _ (script : Script) (spelled : IsSpelled script) (work : Work) (opening :
     shown_seen g there key row shows =
         let n = kept.node in
         let before : (x : Entry) (m : TrxMtr) → StandsAbove x e (entries id.node) → x.trace.mtr ≡ Some m → m.at < g.height = λ x m above made.
-        let p = precedes_of work o w f.facts id.node (down id.node) (entries id.node) (f.kept id.node n) (f.all id.node n) (f.in_order id.node n) x e above in
+        let p = precedes_of work o w f.facts id.node (down id.node) (entries id.node) (f.kept id.node n) (f.all id.node n) (next_in_order script spelled work opening o w down entries downs f id.node n) x e above in
         subst (λ (y : Option TrxMtr). IfSome y (λ k. k.at < g.height)) made (all_in (λ (h : GivenPage PageView). IfSome x.trace.mtr (λ k. k.at < h.height)) g e.trace.pages p.below there) in
         let after : (x : Entry) (m : TrxMtr) → StandsAbove e x (entries id.node) → x.trace.mtr ≡ Some m → g.height ≤ m.at = λ x m below made.
-        let p = precedes_of work o w f.facts id.node (down id.node) (entries id.node) (f.kept id.node n) (f.all id.node n) (f.in_order id.node n) e x below in
+        let p = precedes_of work o w f.facts id.node (down id.node) (entries id.node) (f.kept id.node n) (f.all id.node n) (next_in_order script spelled work opening o w down entries downs f id.node n) e x below in
         subst (λ (y : Option TrxMtr). IfSome y (λ k. g.height ≤ k.at)) made (all_in (λ (h : GivenPage PageView). IfSome x.trace.mtr (λ k. h.height ≤ k.at)) g e.trace.pages p.above there) in
         let here : (m : TrxMtr) → e.trace.mtr ≡ Some m → g.height ≤ m.at = λ m made. absurd (not_some m (sym looked ∙ made)) in
         let bounds = view_bounds id.node id view trx.begun in

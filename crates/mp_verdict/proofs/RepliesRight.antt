@@ -1,8 +1,7 @@
 -- Each reply of a finished run that refuses nothing is right, and follows its transaction's refusals.
-use Rattle.std.proofs.Common.{◌≡◌, ◌≢◌, ℕ, zero, suc, ◌+◌, ◌<◌, ◌≤◌, ◌==◌, ◌&&◌, ◌||◌, Bool, true, false, cond, List, [], ◌∷◌, Some, is_some, refl, sym, ap, subst, ◌∙◌, inl, inr, arith, eq-eqb, ne_eqb}
+use Rattle.std.proofs.Common.{◌≡◌, ◌≢◌, ℕ, ◌==◌, ◌&&◌, Bool, true, false, List, [], Some, is_some, refl, sym, ap, subst, ◌∙◌, inl, inr, arith, eq-eqb}
 use mathlib.Core.Bool.{false≢true}
-use Rattle.std.specs.List.{list_any}
-use Rattle.std.proofs.lemmas.Bool.{cases_lt, and_from}
+use Rattle.std.proofs.lemmas.Bool.{and_from}
 use Rattle.mp_machine.specs.Lists.{IsIn}
 use Rattle.mp_model.specs.declared.histories.Opening.{Opening}
 use Rattle.mp_model.specs.declared.replies.Answer.{Answer}
@@ -12,63 +11,28 @@ use Rattle.mp_model.specs.declared.transcripts.Down.{Down}
 use Rattle.mp_script.specs.declared.statements.Line.{Line}
 use Rattle.mp_script.specs.declared.statements.Script.{Script}
 use Rattle.mp_script.specs.declared.statements.SessionOn.{SessionOn}
-use Rattle.mp_script.specs.declared.statements.Stmt.{Stmt}
-use Rattle.mp_script.specs.declared.statements.Stmt.TheVariants.{Begin, Get, Put, Del, Copy, Scan, Commit, Rollback}
-use Rattle.mp_script.specs.Execution.{Execution, line_at}
+use Rattle.mp_script.specs.Execution.{Execution, line_at, is_session_on}
 use Rattle.mp_script.specs.Right.{IsRightReply, FollowsRefusal, HasOwnWrite, HasNoOwnWrite, went_down}
 use Rattle.mp_script.specs.Spelling.{IsSpelled}
-use Rattle.mp_script.specs.Transactions.{begins, cts_of, is_refusal, wrote_before, refused_before}
+use Rattle.mp_script.specs.Transactions.{cts_of, is_refusal, wrote_before, refused_before}
+use Rattle.mp_script.proofs.Options.{some_is}
+use Rattle.mp_script.proofs.Looking.{line_is, any_in}
+use Rattle.mp_script.proofs.ItemsAbove.{IsPlacedIn}
+use Rattle.mp_script.proofs.ReplyForms.{not_begins}
+use Rattle.mp_script.proofs.DownLines.{line_of_down}
 use Rattle.mp_core_trx.specs.Events.{IsNode}
-use Rattle.mp_histories.proofs.Writers.{decided}
 use Rattle.mp_core.specs.declared.opening.CoreOpening.{CoreOpening}
 use Rattle.mp_core.specs.World.{CoreWorld, core_part}
 use Rattle.mp_supports.specs.Work.{Work}
 use Rattle.mp_supports.specs.Supports.{SupportsReply}
 use Rattle.mp_supports.specs.Kept.{Entry, answers_in}
 use Rattle.mp_verdict.specs.Counting.{CountsCommits}
-use Rattle.mp_verdict.specs.Finished.{is_session_on, answered_so_far, IsAnsweredNext, down_lines, Finished}
+use Rattle.mp_verdict.specs.Finished.{Finished}
 use Rattle.mp_verdict.specs.Told.{IsToldBy}
-use Rattle.mp_verdict.proofs.Options.{some_is}
-use Rattle.mp_verdict.proofs.ScriptLines.{line_is}
 use Rattle.mp_verdict.proofs.ToldAnswers.{IsKeptBy, on_node, supported, kept_answer}
 use Rattle.mp_verdict.proofs.ReadsRight.{read_right}
-use Rattle.mp_verdict.proofs.SoFar.{IsPlacedIn, place_of, wrote_so_far, refused_so_far}
-
-not_begins : (stmt : Stmt) → stmt ≢ Begin → begins (Some stmt) ≡ false
-not_begins Begin ne = absurd (ne refl)
-not_begins (Get key) ne = refl
-not_begins (Put key value) ne = refl
-not_begins (Del key) ne = refl
-not_begins (Copy source key) ne = refl
-not_begins (Scan low most) ne = refl
-not_begins Commit ne = refl
-not_begins Rollback ne = refl
-
--- a primary that is down has its line
-pub line_of_down : (down : ℕ → ℕ) (n first count : ℕ) → first ≤ n → n < first + count → down n ≢ 0 → IsIn (record { primary = n; by = down n }) (down_lines down first count)
-line_of_down down n first zero low high ne = absurd (omega (arith, low, high))
-line_of_down down n first (suc count) low high ne = elim (cases_lt first n) [
-  | inl past ↦
-      let rest = line_of_down down n (first + 1) count (omega (arith, past)) (omega (arith, high)) ne in
-      elim (decided (down first == 0)) [
-        | inl e ↦ subst (IsIn (record { primary = n; by = down n })) (sym (ap (λ (b : Bool). cond b (down_lines down (first + 1) count) (record { primary = first; by = down first } ∷ down_lines down (first + 1) count)) e)) rest
-        | inr e ↦ subst (IsIn (record { primary = n; by = down n })) (sym (ap (λ (b : Bool). cond b (down_lines down (first + 1) count) (record { primary = first; by = down first } ∷ down_lines down (first + 1) count)) e)) (inr rest)
-      ]
-  | inr ge ↦
-      let is : n ≡ first = omega (arith, low, ge) in
-      let test : (down first == 0) ≡ false = ne_eqb (down first) 0 (λ e. ne (ap down is ∙ e)) in
-      subst (IsIn (record { primary = n; by = down n })) (sym (ap (λ (b : Bool). cond b (down_lines down (first + 1) count) (record { primary = first; by = down first } ∷ down_lines down (first + 1) count)) test))
-      (inl (ap (λ (k : ℕ). record { primary = k; by = down k }) is))
-]
-
-pub any_in : {T : Type 0} (test : T → Bool) (x : T) (xs : List T) → IsIn x xs → test x ≡ true → list_any test xs ≡ true
-any_in test x [] h e = absurd h
-any_in test x (z ∷ zs) (inl same) e = ap (λ (b : Bool). b || list_any test zs) (ap test (sym same) ∙ e)
-any_in test x (z ∷ zs) (inr h) e = ap (λ (b : Bool). test z || b) (any_in test x zs h e) ∙ or_so (test z)
-  where
-    or_so : (b : Bool) → (b || true) ≡ true
-    or_so true = refl
-    or_so false = refl
+use Rattle.mp_verdict.proofs.SoFar.{place_of, wrote_so_far, refused_so_far}
+use Rattle.mp_verdict.proofs.NextInOrder.{IsAnsweredNext, answered_so_far}
 
 module _ (script : Script) (spelled : IsSpelled script) (work : Work) (opening : Opening) (o : CoreOpening) (w : CoreWorld) (down : ℕ → ℕ) (entries : ℕ → List Entry) (downs : List Down)
     (f : Finished work script opening o w down entries downs) (run : Execution) (told : IsToldBy work opening o entries downs run) where

@@ -1,8 +1,8 @@
 -- The rules of a legal transcript that speak of parts, numbers and views, in mode Run.
-use Rattle.std.proofs.Common.{◌≡◌, ◌≢◌, ℕ, zero, suc, ◌+◌, ◌<◌, ◌==◌, ◌||◌, Bool, true, false, cond, List, [], ◌∷◌, length, map, filter, refl, sym, ap, subst, ◌∙◌, inl, inr, arith, ne_eqb}
+use Rattle.std.proofs.Common.{◌≡◌, ◌≢◌, ℕ, ◌<◌, ◌==◌, ◌||◌, Bool, true, false, cond, List, [], length, sym, ap, subst, ◌∙◌, inl, inr, arith, ne_eqb}
 use mathlib.Core.Bool.{false≢true}
 use Rattle.mp_machine.specs.Lists.{IsIn}
-use Rattle.mp_model.specs.Folded.{AscendsFrom, KeysAscend}
+use Rattle.mp_model.specs.Folded.{KeysAscend}
 use Rattle.mp_model.specs.declared.histories.Opening.{Opening}
 use Rattle.mp_model.specs.declared.replies.Answer.{Answer}
 use Rattle.mp_model.specs.declared.transcripts.Down.{Down}
@@ -13,12 +13,18 @@ use Rattle.mp_model.specs.declared.transcripts.Transcript.{Transcript}
 use Rattle.mp_script.specs.declared.statements.Script.{Script}
 use Rattle.mp_script.specs.declared.statements.SessionOn.{SessionOn}
 use Rattle.mp_script.specs.Below.{EachBelow, numbers, answered, stated}
-use Rattle.mp_script.specs.Execution.{Execution}
+use Rattle.mp_script.specs.Execution.{Execution, is_session_on}
 use Rattle.mp_script.specs.InTheirPart.{count_from, part_primaries, BeginsAtOpening, belongs, IsNextStatement, LeavesNone, AnswersEachStatement, AnswersEachOnce}
 use Rattle.mp_script.specs.Legal.{ViewsAreRight}
 use Rattle.mp_script.specs.Numbered.{AreNumbered, IfShowsView, IsRightView}
 use Rattle.mp_script.specs.Spelling.{IsSpelled}
+use Rattle.mp_script.specs.Standing.{StandsAbove}
+use Rattle.mp_script.specs.Answers.{AreApartAnswers, ViewsCover}
 use Rattle.mp_script.proofs.InTurn.{once-next, once-none_left}
+use Rattle.mp_script.proofs.Ordered.{pair_above, above_in, in_flat, from_found, from_above_found, above_map, from_above_flat}
+use Rattle.mp_script.proofs.ItemsAbove.{all_of, pairs_by, ascend_pairs}
+use Rattle.mp_script.proofs.CountedAnswers.{none_answered, apart_by}
+use Rattle.mp_script.proofs.ScriptLines.{count_rises}
 use Rattle.mp_core_trx.specs.Events.{IsNode}
 use Rattle.mp_histories.proofs.Writers.{decided}
 use Rattle.mp_core.specs.declared.opening.CoreOpening.{CoreOpening}
@@ -26,34 +32,16 @@ use Rattle.mp_core.specs.World.{CoreWorld}
 use Rattle.mp_facts.specs.Facts.{opening_pages}
 use Rattle.mp_supports.specs.Work.{Work}
 use Rattle.mp_supports.specs.Kept.{Entry, answers_in}
-use Rattle.mp_verdict.specs.Standing.{StandsAbove}
-use Rattle.mp_verdict.specs.Counting.{CountsCommits, AreApartAnswers}
-use Rattle.mp_verdict.specs.Finished.{is_session_on, Finished}
-use Rattle.mp_verdict.specs.Orders.{RunOrder, ViewsCover, IsRunTranscript}
+use Rattle.mp_verdict.specs.Counting.{CountsCommits}
+use Rattle.mp_verdict.specs.Finished.{Finished}
+use Rattle.mp_verdict.specs.Orders.{RunOrder, IsRunTranscript}
 use Rattle.mp_verdict.specs.Told.{IsToldBy}
-use Rattle.mp_verdict.proofs.Ordered.{Pairwise, pair_above, above_in, in_flat, from_found, from_above_found, above_map, from_above_flat}
 use Rattle.mp_verdict.proofs.OpeningRows.{opening_ascend}
 use Rattle.mp_verdict.proofs.KeptOrder.{index_up, session_here}
 use Rattle.mp_verdict.proofs.ToldAnswers.{one_node}
-use Rattle.mp_verdict.proofs.KeyConflicts.{all_of}
-use Rattle.mp_verdict.proofs.Numbering.{pairs_by, counts, are_numbered, views_right}
-use Rattle.mp_verdict.proofs.StepTold.{ascend_pairs}
+use Rattle.mp_verdict.proofs.Numbering.{counts, are_numbered, views_right}
 use Rattle.mp_verdict.proofs.RunTold.{run_mode, part_node, part_answers, run_told}
-
-pub apart_by : (answers : List Answer) → Pairwise (λ (x y : Answer). x.session ≡ y.session → x.index ≢ y.index) answers → AreApartAnswers answers
-apart_by [] p = tt
-apart_by (x ∷ answers) p = (p.0, apart_by answers p.1)
-
--- answers of other sessions
-pub none_answered : (session : ℕ) (answers : List Answer) → ((a : Answer) → IsIn a answers → a.session ≢ session) → answered session answers ≡ []
-none_answered session [] h = refl
-none_answered session (a ∷ answers) h =
-    ap (λ (b : Bool). map (λ (x : Answer). x.index) (cond b (a ∷ filter (λ (x : Answer). x.session == session) answers) (filter (λ (x : Answer). x.session == session) answers))) (ne_eqb a.session session (h a (inl refl)))
-    ∙ none_answered session answers (λ b there. h b (inr there))
-
-count_ascends : (first count : ℕ) → AscendsFrom (λ (n : ℕ). n) first (count_from first count)
-count_ascends first zero = tt
-count_ascends first (suc count) = (omega arith, count_ascends (first + 1) count)
+use Rattle.mp_verdict.proofs.NextInOrder.{next_in_order}
 
 module _ (script : Script) (spelled : IsSpelled script) (work : Work) (opening : Opening) (o : CoreOpening) (w : CoreWorld) (down : ℕ → ℕ) (entries : ℕ → List Entry) (downs : List Down)
     (f : Finished work script opening o w down entries downs) (transcript : Transcript) (t : IsRunTranscript opening o.trx.primaries entries downs transcript) where
@@ -74,7 +62,7 @@ module _ (script : Script) (spelled : IsSpelled script) (work : Work) (opening :
   session_of part a here there =
       let e = from_found (λ (x : Entry). x.answer) (entries part.primary) a (subst (IsIn a) (answers_of part here) there) in
       let n = node_of part here in
-      session_here work o w f.facts part.primary (down part.primary) (entries part.primary) (f.kept part.primary n) (f.all part.primary n) (f.in_order part.primary n) e.0 a e.1 e.2
+      session_here work o w f.facts part.primary (down part.primary) (entries part.primary) (f.kept part.primary n) (f.all part.primary n) (next_in_order script spelled work opening o w down entries downs f part.primary n) e.0 a e.1 e.2
 
   pub run_apart : AreApartAnswers its_run.answers
   run_apart = apart_by its_run.answers (pairs_by (λ (x y : Answer). x.session ≡ y.session → x.index ≢ y.index) its_run.answers (λ a b above session index.
@@ -83,14 +71,14 @@ module _ (script : Script) (spelled : IsSpelled script) (work : Work) (opening :
             let n = node_of one.0 one.1 in
             let p = (one.0).primary in
             let at = from_above_found (λ (y : Entry). y.answer) (entries p) a b (subst (StandsAbove a b) (answers_of one.0 one.1) one.2) in
-            let lt = index_up work o w f.facts p (down p) (entries p) (f.kept p n) (f.all p n) (f.in_order p n) at.0 at.1 a b at.2 at.3 at.4 session in
+            let lt = index_up work o w f.facts p (down p) (entries p) (f.kept p n) (f.all p n) (next_in_order script spelled work opening o w down entries downs f p n) at.0 at.1 a b at.2 at.3 at.4 session in
             omega (arith, lt, index)
         | inr two ↦
             let both = above_in two.0 two.1 transcript.parts.items two.2 in
             let on_first = session_of two.0 a both.0 two.3 in
             let on_second = session_of two.1 b both.1 two.4 in
             let same = one_node script spelled work opening o w down entries downs f its_run its_told b.session (two.0).primary (two.1).primary (subst (λ (s : ℕ). is_session_on work.sessions s (two.0).primary ≡ true) session on_first) on_second in
-            let rises = pair_above (λ (x y : ℕ). x < y) (two.0).primary (two.1).primary (count_from 1 o.trx.primaries) (ascend_pairs (λ (n : ℕ). n) 1 (count_from 1 o.trx.primaries) (count_ascends 1 o.trx.primaries))
+            let rises = pair_above (λ (x y : ℕ). x < y) (two.0).primary (two.1).primary (count_from 1 o.trx.primaries) (ascend_pairs (λ (n : ℕ). n) 1 (count_from 1 o.trx.primaries) (count_rises 1 o.trx.primaries))
             (subst (StandsAbove (two.0).primary (two.1).primary) t.primaries_are (above_map (λ (p : Part). p.primary) two.0 two.1 transcript.parts.items two.2)) in
             omega (arith, same, rises)
       ]))

@@ -1,6 +1,5 @@
 -- The transcript of a run in mode Run: its execution has the answers of the primaries, and in each part the mtrs rise.
-use Rattle.std.proofs.Common.{◌≡◌, ℕ, zero, suc, ◌+◌, ◌<◌, ◌≤◌, List, [], refl, sym, ap, subst, ◌∙◌, inl, inr, arith}
-use Rattle.std.proofs.lemmas.Bool.{cases_lt}
+use Rattle.std.proofs.Common.{◌≡◌, ℕ, List, [], refl, sym, ap, subst, ◌∙◌, arith}
 use Rattle.mp_machine.specs.Lists.{IsIn}
 use Rattle.mp_script.specs.Below.{EachBelow}
 use Rattle.mp_model.specs.declared.histories.Opening.{Opening}
@@ -10,34 +9,24 @@ use Rattle.mp_model.specs.declared.transcripts.Transcript.{Transcript}
 use Rattle.mp_script.specs.declared.statements.Script.{Script}
 use Rattle.mp_script.specs.Conflicts.{SeesEarlierCommits, HoldsItsKeys}
 use Rattle.mp_script.specs.Execution.{Execution, execution_of}
-use Rattle.mp_script.specs.InTheirPart.{count_from}
 use Rattle.mp_script.specs.Legal.{WritesSeeEarlierCommits, KeysAreHeld}
 use Rattle.mp_script.specs.Spelling.{IsSpelled}
+use Rattle.mp_script.specs.Standing.{StandsAbove}
+use Rattle.mp_script.proofs.Ordered.{all_in, above_in, in_found, from_found, from_above_found, in_map, from_map, in_flat, from_flat}
+use Rattle.mp_script.proofs.ItemsAbove.{all_of}
+use Rattle.mp_script.proofs.CountedAnswers.{in_count, from_count}
 use Rattle.mp_core_trx.specs.Events.{IsNode}
 use Rattle.mp_core.specs.declared.opening.CoreOpening.{CoreOpening}
 use Rattle.mp_core.specs.World.{CoreWorld}
 use Rattle.mp_supports.specs.Work.{Work}
 use Rattle.mp_supports.specs.Kept.{Entry, answers_in}
-use Rattle.mp_verdict.specs.Standing.{StandsAbove}
 use Rattle.mp_verdict.specs.Finished.{Finished}
 use Rattle.mp_verdict.specs.Orders.{IsRunTranscript}
 use Rattle.mp_verdict.specs.Told.{IsToldBy}
-use Rattle.mp_verdict.proofs.Ordered.{all_in, above_in, in_found, from_found, from_above_found, in_map, from_map, in_flat, from_flat}
 use Rattle.mp_verdict.proofs.KeptOrder.{mtrs_up}
 use Rattle.mp_verdict.proofs.ToldAnswers.{IsKeptBy, same_node, one_entry}
-use Rattle.mp_verdict.proofs.KeyConflicts.{all_of, MtrsRise, see_earlier, hold_keys}
-
-pub in_count : (n first count : ℕ) → first ≤ n → n < first + count → IsIn n (count_from first count)
-in_count n first zero low high = absurd (omega (arith, low, high))
-in_count n first (suc count) low high = elim (cases_lt first n) [
-  | inl past ↦ inr (in_count n (first + 1) count (omega (arith, past)) (omega (arith, high)))
-  | inr ge ↦ inl (omega (arith, low, ge))
-]
-
-pub from_count : (n first count : ℕ) → IsIn n (count_from first count) → (first ≤ n) × (n < first + count)
-from_count n first zero h = absurd h
-from_count n first (suc count) (inl e) = (omega (arith, e), omega (arith, e))
-from_count n first (suc count) (inr h) = let rest = from_count n (first + 1) count h in let low = rest.0 in let high = rest.1 in (omega (arith, low), omega (arith, high))
+use Rattle.mp_verdict.proofs.KeyConflicts.{MtrsRise, see_earlier, hold_keys}
+use Rattle.mp_verdict.proofs.NextInOrder.{next_in_order}
 
 module _ (script : Script) (spelled : IsSpelled script) (work : Work) (opening : Opening) (o : CoreOpening) (w : CoreWorld) (down : ℕ → ℕ) (entries : ℕ → List Entry) (downs : List Down)
     (f : Finished work script opening o w down entries downs) (transcript : Transcript) (t : IsRunTranscript opening o.trx.primaries entries downs transcript) where
@@ -85,7 +74,7 @@ module _ (script : Script) (spelled : IsSpelled script) (work : Work) (opening :
         let second : IsKeptBy script spelled work opening o w down entries downs f run_mode run_told part.primary at.1 b = record { node = node; there = both.1; is = at.4 } in
         let one = one_entry script spelled work opening o w down entries downs f run_mode run_told part.primary at.0 e a a first (same_node script spelled work opening o w down entries downs f run_mode run_told part.primary n at.0 e a a first kept refl) refl refl in
         let two = one_entry script spelled work opening o w down entries downs f run_mode run_told part.primary at.1 x b b second (same_node script spelled work opening o w down entries downs f run_mode run_told part.primary m at.1 x b b second also refl) refl refl in
-        mtrs_up work o w f.facts part.primary (down part.primary) (entries part.primary) (f.kept part.primary node) (f.all part.primary node) (f.in_order part.primary node) at.0 at.1 j k at.2
+        mtrs_up work o w f.facts part.primary (down part.primary) (entries part.primary) (f.kept part.primary node) (f.all part.primary node) (next_in_order script spelled work opening o w down entries downs f part.primary node) at.0 at.1 j k at.2
         (ap (λ (y : Entry). y.trace.mtr) one ∙ made) (ap (λ (y : Entry). y.trace.mtr) two ∙ later);
   }
 

@@ -2,7 +2,7 @@
 use Rattle.std.proofs.Common.{◌≡◌, ◌⊎◌, ℕ, zero, suc, ◌+◌, ◌<◌, ◌≤◌, ◌==◌, ◌&&◌, nat_lt, nat_le, Bool, true, false, cond, List, [], ◌∷◌, ◌++◌, length, filter, Option, Some, None, refl, sym, ap, subst, ◌∙◌, inl, inr, arith, ne_eqb}
 use mathlib.Core.Bool.{false≢true}
 use Rattle.std.specs.List.{AllByRecursion}
-use Rattle.std.proofs.lemmas.Bool.{cases_lt, eqb-true, and_from, and_parts, leb-true, le-leb, ltb-true, lt-ltb}
+use Rattle.std.proofs.lemmas.Bool.{cases_Bool, cases_lt, eqb-true, and_from, and_parts, leb-true, le-leb, ltb-true, lt-ltb}
 use Rattle.mp_model.specs.declared.ids.TrxId.{TrxId}
 use Rattle.mp_model.specs.declared.key_value.KeyValue.{KeyValue}
 use Rattle.mp_model.specs.Folded.{value_at, KeysAscend}
@@ -24,10 +24,11 @@ use Rattle.mp_core.specs.declared.part.CorePart.{CorePart}
 use Rattle.mp_facts.specs.Facts.{Facts}
 use Rattle.mp_supports.specs.Seeing.{LeadsToSeen, Sees, key_value_of, AreSeenAs, IsStretch, ScansTo}
 use Rattle.mp_machine.specs.Lists.{IsIn}
-use Rattle.mp_verdict.specs.LastValues.{or_else_value}
-use Rattle.mp_verdict.proofs.LastValues.{or_else_none, value_at-append}
-use Rattle.mp_verdict.proofs.RisingRows.{RowsRise, none_below, none_above, first_rows}
-use Rattle.mp_verdict.proofs.ShownChains.{chains_at}
+use Rattle.mp_script.specs.LastValues.{or_else_value}
+use Rattle.mp_script.proofs.LastValues.{or_else_none, value_at-append}
+use Rattle.mp_script.proofs.RisingRows.{first_rows}
+use Rattle.mp_verdict.proofs.RisingRows.{RowsRise, rise_ascend, rise_below, none_below, none_above}
+use Rattle.mp_supports.proofs.ShownRows.{chains_at}
 
 -- rows of a leaf from one key on and below another
 abbrev pub in_stretch : ℕ → ℕ → Row → Bool
@@ -39,13 +40,9 @@ stretch_kept low next row rows e = ap (λ (b : Bool). cond b (row ∷ filter (in
 stretch_dropped : (low next : ℕ) (row : Row) (rows : List Row) → in_stretch low next row ≡ false → filter (in_stretch low next) (row ∷ rows) ≡ filter (in_stretch low next) rows
 stretch_dropped low next row rows e = ap (λ (b : Bool). cond b (row ∷ filter (in_stretch low next) rows) (filter (in_stretch low next) rows)) e
 
-tested_so : (b : Bool) → (b ≡ true) ⊎ (b ≡ false)
-tested_so true = inl refl
-tested_so false = inr refl
-
 stretch_rises : (low next from until : ℕ) (rows : List Row) → Rises (λ row. row.key) from until rows → Rises (λ row. row.key) low next (filter (in_stretch low next) rows)
 stretch_rises low next from until [] r = tt
-stretch_rises low next from until (row ∷ rows) r = elim (tested_so (in_stretch low next row)) [
+stretch_rises low next from until (row ∷ rows) r = elim (cases_Bool (in_stretch low next row)) [
   | inl e ↦
       let both = and_parts (nat_le low row.key) (nat_lt row.key next) e in
       let above = rises_above (row.key + 1) until rows r.2 in
@@ -55,7 +52,7 @@ stretch_rises low next from until (row ∷ rows) r = elim (tested_so (in_stretch
   where
     rises_above : (n m : ℕ) (rs : List Row) → Rises (λ row. row.key) n m rs → Rises (λ row. row.key) n next (filter (in_stretch low next) rs)
     rises_above n m [] h = tt
-    rises_above n m (x ∷ xs) h = elim (tested_so (in_stretch low next x)) [
+    rises_above n m (x ∷ xs) h = elim (cases_Bool (in_stretch low next x)) [
       | inl e ↦
           let both = and_parts (nat_le low x.key) (nat_lt x.key next) e in
           subst (Rises (λ (y : Row). y.key) n next) (sym (stretch_kept low next x xs e)) (h.0, ltb-true x.key next both.1, rises_above (x.key + 1) m xs h.2)
@@ -66,7 +63,7 @@ stretch_rises low next from until (row ∷ rows) r = elim (tested_so (in_stretch
 
 stretch_row : (low next key : ℕ) (rows : List Row) → low ≤ key → key < next → row_at key (filter (in_stretch low next) rows) ≡ row_at key rows
 stretch_row low next key [] from until = refl
-stretch_row low next key (row ∷ rows) from until = elim (tested_so (in_stretch low next row)) [
+stretch_row low next key (row ∷ rows) from until = elim (cases_Bool (in_stretch low next row)) [
   | inl e ↦ ap (row_at key) (stretch_kept low next row rows e) ∙ ap (cond (row.key == key) (Some row)) (stretch_row low next key rows from until)
   | inr e ↦
       let other : (row.key == key) ≡ false = ne_eqb row.key key (λ is. false≢true (sym e ∙ and_from (nat_le low row.key) (nat_lt row.key next) (le-leb low row.key (omega (arith, is, from))) (lt-ltb row.key next (omega (arith, is, until))))) in
@@ -100,7 +97,7 @@ module _ (p : CorePart) (reader : TrxId) (view : ℕ) where
 
   pub seen_at_key : (low next : ℕ) (tops : List Row) (rows : List KeyValue) → Rises (λ row. row.key) low next tops → AreSeenAs p reader view tops rows → (key : ℕ) → SeenAt tops rows key
   seen_at_key low next [] rows r seen key = record { older = []; found = version_of key None; leads = (refl, inr (inl refl)); value = ap (value_at key) seen }
-  seen_at_key low next (t ∷ tops) rows r seen key = elim (tested_so (t.key == key)) [
+  seen_at_key low next (t ∷ tops) rows r seen key = elim (cases_Bool (t.key == key)) [
     | inl e ↦
         let is : row_at key (t ∷ tops) ≡ Some t = ap (λ (b : Bool). cond b (Some t) (row_at key tops)) e in
         let at : t.key ≡ key = eqb-true t.key key e in
@@ -189,4 +186,4 @@ module _ (o : CoreOpening) (w : CoreWorld) (fit : NumbersFit o) (facts : Facts o
   pub scanned : (count low high most : ℕ) (rows : List KeyValue) → KeysAscend all → AllByRecursion (λ row. row.key < top) all → ScansTo (core_part w reader.node) pages reader view count low high rows → length rows ≤ most → (high ≡ top) ⊎ (length rows ≡ most) → rows ≡ first_rows_from low most all
   scanned count low high most rows ascend below s le end =
       let right = scan_right count low high rows s in
-      first_rows low high most rows all right.rises ascend below right.values le end
+      first_rows low high most top rows all (rise_ascend low high rows right.rises) (rise_below low high rows right.rises) ascend below right.values le end

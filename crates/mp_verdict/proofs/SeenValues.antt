@@ -14,6 +14,12 @@ use Rattle.mp_script.specs.declared.statements.Stmt.TheVariants.{Begin, Get, Put
 use Rattle.mp_script.specs.Execution.{Execution, stmt_at, reply_at}
 use Rattle.mp_script.specs.Transactions.{trx_of, view_of, statements_before, wrote_at, is_wrote, target_key}
 use Rattle.mp_script.specs.Seen.{write_by, write_at, acknowledgement, rows_of_view}
+use Rattle.mp_script.specs.LastValues.{or_else_value, last_value, value_over, first_writes, writes_acknowledged, writes_of_commit, IsValueInView}
+use Rattle.mp_script.specs.Answers.{WroteKey}
+use Rattle.mp_script.proofs.Options.{some_is, not_some}
+use Rattle.mp_script.proofs.LastValues.{value_at-over, last_value-append}
+use Rattle.mp_script.proofs.ViewValues.{value_in_view}
+use Rattle.mp_script.proofs.ReplyForms.{no_target}
 use Rattle.mp_cells.specs.declared.rows.Row.{Row}
 use Rattle.mp_histories.proofs.Writers.{decided}
 use Rattle.mp_core.specs.declared.opening.CoreOpening.{CoreOpening}
@@ -21,23 +27,7 @@ use Rattle.mp_core.specs.World.{CoreWorld}
 use Rattle.mp_core.specs.OwnMtrs.{TrxMtr}
 use Rattle.mp_facts.specs.Facts.{IsForced, Facts}
 use Rattle.mp_verdict.specs.Reads.{PutBelow, LastPutBelow, PutsNothingBelow, PutOf, LastPutOf, CommitsShow, ShowsReader}
-use Rattle.mp_verdict.specs.LastValues.{or_else_value, last_value, value_over, first_writes, writes_acknowledged, writes_of_commit, IsValueInView}
-use Rattle.mp_verdict.specs.Writers.{WroteKey, LiesBetween, IsValueOf, IsWriter, IsAcknowledged, TellsOfWorld}
-use Rattle.mp_verdict.proofs.Options.{some_is, not_some}
-use Rattle.mp_verdict.proofs.LastValues.{value_at-over, last_value-append}
-use Rattle.mp_verdict.proofs.ViewValues.{value_in_view}
-
--- a statement that writes no key is no write
-no_target : (rows : List KeyValue) (stmt : Option Stmt) → target_key stmt ≡ None → write_by rows stmt ≡ []
-no_target rows None e = refl
-no_target rows (Some Begin) e = refl
-no_target rows (Some (Get key)) e = refl
-no_target rows (Some (Put key value)) e = absurd (not_some key (sym e))
-no_target rows (Some (Del key)) e = absurd (not_some key (sym e))
-no_target rows (Some (Copy source key)) e = absurd (not_some key (sym e))
-no_target rows (Some (Scan low most)) e = refl
-no_target rows (Some Commit) e = refl
-no_target rows (Some Rollback) e = refl
+use Rattle.mp_verdict.specs.Writers.{LiesBetween, IsValueOf, IsWriter, IsAcknowledged, TellsOfWorld}
 
 module _ (o : CoreOpening) (w : CoreWorld) (run : Execution) (trx : TrxName) (id : TrxId) (count limit : ℕ) (writer : IsWriter o w run trx id count limit) where
   -- the rows that the statement with this place sees, by its transaction's writes before

@@ -5,31 +5,25 @@ use mathlib.Core.Bool.{false≢true}
 use Rattle.std.specs.List.{AllByRecursion}
 use Rattle.mp_machine.specs.Lists.{IsIn}
 use Rattle.mp_model.specs.declared.ids.TrxId.{TrxId}
+use Rattle.mp_script.proofs.Options.{some_is, not_some}
 use Rattle.mp_cells.specs.declared.rows.Row.{Row}
-use Rattle.mp_cells.specs.PageView.{PageView}
-use Rattle.mp_cells.specs.Trees.{row_at, height_of}
-use Rattle.mp_cells.specs.Writes.{record_in, undo_at, version_of}
-use Rattle.mp_cells.proofs.Places.{row_in_leaf}
-use Rattle.mp_cells.proofs.Spare.{with_none}
-use Rattle.mp_plans.specs.Fitting.{IsLeafOf}
+use Rattle.mp_cells.specs.Writes.{undo_at}
 use Rattle.mp_core_trx.specs.Parts.{trx, draw_of}
 use Rattle.mp_core_trx.specs.World.{drawn_in}
-use Rattle.mp_core_pages.specs.declared.part.GivenPage.{GivenPage}
 use Rattle.mp_histories.specs.KeyOps.{same_writer}
 use Rattle.mp_histories.specs.Readers.{ShowsTo, Takes}
-use Rattle.mp_histories.specs.Histories.{History, older, pages_after, Version, by_version, rows_of_versions}
-use Rattle.mp_histories.specs.Chains.{row_over, LinksTo, IsChain, row_of_key, RunsFrom, HasChains, StaysNoted, IsPutAt}
+use Rattle.mp_histories.specs.Histories.{History, older, Version, by_version, rows_of_versions}
+use Rattle.mp_histories.specs.Chains.{row_over, LinksTo, IsChain, row_of_key, StaysNoted, IsPutAt}
 use Rattle.mp_histories.proofs.Writers.{decided, same_is, other_is}
 use Rattle.mp_histories.proofs.ChainFacts.{links_one}
-use Rattle.mp_histories.proofs.Noting.{IsOlder, older_first, noted}
-use Rattle.mp_histories.proofs.Standing.{has_chains, undo_stays, runs_before}
+use Rattle.mp_histories.proofs.Noting.{noted}
 use Rattle.mp_histories.proofs.LiveRows.{live_put_at}
 use Rattle.mp_core.specs.declared.opening.CoreOpening.{CoreOpening}
 use Rattle.mp_core.specs.Invariant.{NumbersFit}
 use Rattle.mp_core.specs.World.{CoreWorld, core_part}
 use Rattle.mp_facts.specs.Facts.{opening_pages, pages_at_height, pages_now, live_at_height, IsForced, CommittedStamp, Facts}
-use Rattle.mp_supports.specs.Seeing.{ShowsNewest, ShowsNext, IsHidden, IsCommittedBelow, IsSeenBy, LeadsToSeen}
-use Rattle.mp_verdict.proofs.Options.{some_is, not_some}
+use Rattle.mp_supports.specs.Seeing.{IsHidden, IsCommittedBelow, IsSeenBy, LeadsToSeen}
+use Rattle.mp_supports.proofs.ShownRows.{runs_at, next_links}
 use Rattle.mp_verdict.proofs.OthersFit.{forced_drew, forced_once, OthersCommitted}
 
 -- an id from its node and its slot
@@ -37,22 +31,11 @@ pub id_of : (id : TrxId) (node slot : ℕ) → node ≡ id.node → slot ≡ id.
 id_of id node slot n s = ap (λ (k : ℕ). trx k slot id.version) n ∙ ap (λ (k : ℕ). trx id.node k id.version) s
 
 module _ (o : CoreOpening) (w : CoreWorld) (fit : NumbersFit o) (facts : Facts o w) where
-  abbrev pub split_at : (height : ℕ) → IsOlder height w.pages.history
-  split_at height = older_first height w.pages.history
-
-  pub runs_at : (height : ℕ) → RunsFrom (opening_pages o) (older height w.pages.history)
-  runs_at height =
-      let split = older_first height w.pages.history in
-      runs_before (opening_pages o) split.newer (older height w.pages.history) (subst (RunsFrom (opening_pages o)) split.split_is facts.of_versions.runs)
-
-  pub chains_at : (height : ℕ) → HasChains (opening_pages o) (older height w.pages.history)
-  chains_at height = has_chains o.trx.base.llsn (opening_pages o) fit.clean (older height w.pages.history) (runs_at height)
-
   pub chain_at : (height key : ℕ) → StaysNoted (opening_pages o) (older height w.pages.history) w.pages.history key (row_of_key (pages_at_height o w height) key)
   chain_at height key = noted o.trx.base.llsn (opening_pages o) fit.clean w.pages.history facts.of_versions.runs height key
 
   put_at : (height key : ℕ) → AllByRecursion (IsPutAt (older height w.pages.history) key) (live_at_height w height key)
-  put_at height key = live_put_at o.trx.base.llsn (opening_pages o) fit.clean (older height w.pages.history) (runs_at height) key
+  put_at height key = live_put_at o.trx.base.llsn (opening_pages o) fit.clean (older height w.pages.history) (runs_at o w fit facts height) key
 
   have_writers : (made : History) (key : ℕ) (vs : List Version) → AllByRecursion (IsPutAt made key) vs → AllByRecursion (λ v. is_some v.row.writer ≡ true) vs
   have_writers made key [] all = tt
@@ -62,27 +45,6 @@ module _ (o : CoreOpening) (w : CoreWorld) (fit : NumbersFit o) (facts : Facts o
   written_at height key = have_writers (older height w.pages.history) key (live_at_height w height key) (put_at height key)
 
   module _ (n : ℕ) where
-    -- the newest version that a leaf shows is the key's row at the leaf's height
-    pub newest_row : (g : GivenPage PageView) (key : ℕ) (newest : Row) → ShowsNewest (core_part w n) g key newest → newest ≡ row_of_key (pages_at_height o w g.height) key
-    newest_row g key newest s =
-        let given = facts.of_notes.given n g s.given in
-        let leaf : IsLeafOf key (pages_at_height o w g.height g.number) = subst (IsLeafOf key) given.2 s.its_leaf in
-        let tree = (chains_at g.height).tree in
-        s.newest_is
-        ∙ ap (λ (page : PageView). version_of key (row_at key page.rows)) given.2
-        ∙ ap (version_of key) (sym (row_in_leaf [] (pages_at_height o w g.height) (height_of (pages_at_height o w g.height)) g.number key (with_none (pages_at_height o w g.height) (height_of (pages_at_height o w g.height)) tree) given.0 leaf.kind leaf.from leaf.until))
-
-    -- what an undo page that was given has at a link is there for good
-    pub next_links : (row next : Row) → ShowsNext (core_part w n) row next → LinksTo (undo_at (pages_now o w)) row next
-    next_links row next s =
-        let given = facts.of_notes.given n s.page s.given in
-        let split = older_first s.page.height w.pages.history in
-        let runs = subst (RunsFrom (opening_pages o)) split.split_is facts.of_versions.runs in
-        let then : undo_at (pages_at_height o w s.page.height) s.link ≡ Some next =
-        ap (λ (k : ℕ). record_in (pages_at_height o w s.page.height k) s.link.index) (sym s.number) ∙ ap (λ (page : PageView). record_in page s.link.index) (sym given.2) ∙ s.next_is in
-        let later = undo_stays o.trx.base.llsn (opening_pages o) fit.clean split.newer (older s.page.height w.pages.history) runs s.link next then in
-        record { link = s.link; linked = s.linked; there = ap (λ (h : History). undo_at (pages_after (opening_pages o) h) s.link) split.split_is ∙ later }
-
     -- a hidden version's writer commits above the view, if ever
     pub hidden_above : (reader : TrxId) (view : ℕ) (row : Row) → IsHidden (core_part w n) reader view row → (cts : ℕ) → CommittedStamp o w row.writer cts → view < cts
     hidden_above reader view row h cts c =
@@ -142,6 +104,6 @@ module _ (o : CoreOpening) (w : CoreWorld) (fit : NumbersFit o) (facts : Facts o
         its = leads.0 ∙ is;
       }
       walked (v ∷ vs) writers chain row is (next ∷ below) found leads =
-          let same : next ≡ row_over (rows_of_versions vs) last = links_one (undo_at (pages_now o w)) v.row next (row_over (rows_of_versions vs) last) (subst (λ (r : Row). LinksTo (undo_at (pages_now o w)) r next) is (next_links row next leads.1)) chain.0 in
+          let same : next ≡ row_over (rows_of_versions vs) last = links_one (undo_at (pages_now o w)) v.row next (row_over (rows_of_versions vs) last) (subst (λ (r : Row). LinksTo (undo_at (pages_now o w)) r next) is (next_links o w fit facts n row next leads.1)) chain.0 in
           let rest = walked vs writers.1 chain.1 next same below found leads.2 in
           record { version = rest.version; takes = inr (hides v (subst (IsHidden (core_part w n) reader view) is leads.0), rest.takes); its = rest.its }

@@ -1,7 +1,7 @@
 -- The rules of a legal transcript that speak of parts, numbers and views, in mode Step.
-use Rattle.std.proofs.Common.{◌≡◌, ◌≢◌, ℕ, ◌==◌, Bool, true, false, cond, List, [], ◌∷◌, length, map, filter, Option, Some, None, refl, sym, ap, subst, ◌∙◌, inl, inr, arith, eq-eqb, ne_eqb}
+use Rattle.std.proofs.Common.{◌≡◌, ◌≢◌, ℕ, ◌==◌, Bool, true, false, cond, List, [], ◌∷◌, length, map, filter, Some, refl, sym, ap, subst, ◌∙◌, inl, inr, arith, eq-eqb}
 use mathlib.Core.Bool.{false≢true}
-use Rattle.std.specs.List.{cons_option, AllByRecursion}
+use Rattle.std.specs.List.{AllByRecursion}
 use Rattle.mp_machine.specs.Lists.{IsIn}
 use Rattle.mp_model.specs.Folded.{KeysAscend}
 use Rattle.mp_model.specs.declared.histories.Opening.{Opening}
@@ -14,12 +14,18 @@ use Rattle.mp_script.specs.declared.statements.Script.{Script}
 use Rattle.mp_script.specs.declared.statements.SessionOn.{SessionOn}
 use Rattle.mp_script.specs.Below.{EachBelow, numbers, answered, stated}
 use Rattle.mp_script.specs.Entries.{is_declared}
-use Rattle.mp_script.specs.Execution.{Execution}
+use Rattle.mp_script.specs.Execution.{Execution, is_session_on}
 use Rattle.mp_script.specs.InTheirPart.{part_primaries, BeginsAtOpening, belongs, IsNextStatement, LeavesNone, AnswersEachStatement, AnswersEachOnce}
 use Rattle.mp_script.specs.Legal.{ViewsAreRight}
 use Rattle.mp_script.specs.Numbered.{AreNumbered, IfShowsView, IsRightView}
 use Rattle.mp_script.specs.Spelling.{IsSpelled}
+use Rattle.mp_script.specs.Standing.{StandsAbove}
+use Rattle.mp_script.specs.Answers.{AreApartAnswers, ViewsCover}
 use Rattle.mp_script.proofs.InTurn.{once-next, once-none_left}
+use Rattle.mp_script.proofs.Ordered.{above_in, from_above_found, from_above_map, above_filter, above_map}
+use Rattle.mp_script.proofs.ItemsAbove.{pairs_by}
+use Rattle.mp_script.proofs.CountedAnswers.{apart_by, none_answered, one_part, same_answered, other_answered}
+use Rattle.mp_script.proofs.Declared.{on_declared, declared_on, undeclared_states}
 use Rattle.mp_core_trx.specs.Events.{IsNode}
 use Rattle.mp_histories.proofs.Writers.{decided}
 use Rattle.mp_core.specs.declared.opening.CoreOpening.{CoreOpening}
@@ -27,37 +33,16 @@ use Rattle.mp_core.specs.World.{CoreWorld}
 use Rattle.mp_facts.specs.Facts.{opening_pages}
 use Rattle.mp_supports.specs.Work.{Work}
 use Rattle.mp_supports.specs.Kept.{Entry, answers_in}
-use Rattle.mp_verdict.specs.Standing.{StandsAbove}
-use Rattle.mp_verdict.specs.Counting.{CountsCommits, AreApartAnswers}
-use Rattle.mp_verdict.specs.Finished.{is_session_on, Finished}
-use Rattle.mp_verdict.specs.Orders.{NodeEntry, entries_given, given_by, IsMerged, StepOrder, ViewsCover, IsStepTranscript}
+use Rattle.mp_verdict.specs.Counting.{CountsCommits}
+use Rattle.mp_verdict.specs.Finished.{Finished}
+use Rattle.mp_verdict.specs.Orders.{NodeEntry, entries_given, given_by, IsMerged, StepOrder, IsStepTranscript}
 use Rattle.mp_verdict.specs.Told.{IsToldBy}
-use Rattle.mp_verdict.proofs.Ordered.{above_in, from_above_found, from_above_map, above_filter, above_map}
 use Rattle.mp_verdict.proofs.OpeningRows.{opening_ascend}
 use Rattle.mp_verdict.proofs.KeptOrder.{index_up}
 use Rattle.mp_verdict.proofs.ToldAnswers.{IsKeptBy, one_node, on_node, kept_answer, same_node, one_entry}
-use Rattle.mp_verdict.proofs.Numbering.{pairs_by, counts, are_numbered, views_right}
-use Rattle.mp_verdict.proofs.RunRules.{apart_by, none_answered}
-use Rattle.mp_verdict.proofs.Declared.{on_declared, declared_on, undeclared_states}
-use Rattle.mp_verdict.proofs.StepTold.{one_part, step_mode, all_are, kept_given, step_told, in_its_part}
-
--- one answer more, or none, before the same answers of a session
-same_answered : (session : ℕ) (o : Option Answer) (xs ys : List Answer) → answered session xs ≡ answered session ys → answered session (cons_option o xs) ≡ answered session (cons_option o ys)
-same_answered session None xs ys e = e
-same_answered session (Some a) xs ys e = elim (decided (a.session == session)) [
-  | inl t ↦ here xs t ∙ ap (λ (l : List ℕ). a.index ∷ l) e ∙ sym (here ys t)
-  | inr t ↦ past xs t ∙ e ∙ sym (past ys t)
-]
-  where
-    here : (zs : List Answer) → (a.session == session) ≡ true → answered session (a ∷ zs) ≡ a.index ∷ answered session zs
-    here zs t = ap (λ (b : Bool). map (λ (x : Answer). x.index) (cond b (a ∷ filter (λ (x : Answer). x.session == session) zs) (filter (λ (x : Answer). x.session == session) zs))) t
-
-    past : (zs : List Answer) → (a.session == session) ≡ false → answered session (a ∷ zs) ≡ answered session zs
-    past zs t = ap (λ (b : Bool). map (λ (x : Answer). x.index) (cond b (a ∷ filter (λ (x : Answer). x.session == session) zs) (filter (λ (x : Answer). x.session == session) zs))) t
-
-other_answered : (session : ℕ) (o : Option Answer) (xs : List Answer) → ((a : Answer) → o ≡ Some a → a.session ≢ session) → answered session (cons_option o xs) ≡ answered session xs
-other_answered session None xs h = refl
-other_answered session (Some a) xs h = ap (λ (b : Bool). map (λ (x : Answer). x.index) (cond b (a ∷ filter (λ (x : Answer). x.session == session) xs) (filter (λ (x : Answer). x.session == session) xs))) (ne_eqb a.session session (h a refl))
+use Rattle.mp_verdict.proofs.Numbering.{counts, are_numbered, views_right}
+use Rattle.mp_verdict.proofs.StepTold.{step_mode, all_are, kept_given, step_told, in_its_part}
+use Rattle.mp_verdict.proofs.NextInOrder.{next_in_order}
 
 -- the answers of a session are those of its node
 answered_by : (session n : ℕ) (given : List NodeEntry) → ((x : NodeEntry) (a : Answer) → IsIn x given → x.entry.answer ≡ Some a → a.session ≡ session → (x.node == n) ≡ true) → answered session (answers_in (entries_given given)) ≡ answered session (answers_in (given_by n given))
@@ -116,7 +101,7 @@ module _ (script : Script) (spelled : IsSpelled script) (work : Work) (opening :
       let kept = same_node script spelled work opening o w down entries downs f its_run its_told k.0 l.0 k.1 l.1 a b k.2 l.2 session in
       let up = step_up a b k.0 k.1 l.1 (subst (StandsAbove a b) are_all above) k.2 kept in
       let n = k.2.node in
-      let lt = index_up work o w f.facts k.0 (down k.0) (entries k.0) (f.kept k.0 n) (f.all k.0 n) (f.in_order k.0 n) k.1 l.1 a b up k.2.is kept.is session in
+      let lt = index_up work o w f.facts k.0 (down k.0) (entries k.0) (f.kept k.0 n) (f.all k.0 n) (next_in_order script spelled work opening o w down entries downs f k.0 n) k.1 l.1 a b up k.2.is kept.is session in
       omega (arith, lt, index)))
 
   many_is : length (numbers its_run.answers) ≡ its_run.commits

@@ -1,9 +1,8 @@
 -- The transcript of a run in mode Step: its execution has the answers of all primaries in the order in which they were given,
 -- and in it the mtrs rise.
-use Rattle.std.proofs.Common.{◌≡◌, ℕ, ◌+◌, ◌<◌, ◌≤◌, ◌==◌, List, [], ◌∷◌, filter, refl, sym, ap, subst, ◌∙◌, inl, inr, arith, eq-eqb, append-nil}
+use Rattle.std.proofs.Common.{◌≡◌, ℕ, ◌<◌, ◌==◌, List, [], filter, refl, sym, ap, subst, ◌∙◌, eq-eqb, append-nil}
 use Rattle.std.specs.List.{filter_map, flat_map, AllByRecursion}
 use Rattle.mp_machine.specs.Lists.{IsIn}
-use Rattle.mp_model.specs.Folded.{AscendsFrom}
 use Rattle.mp_model.specs.declared.histories.Opening.{Opening}
 use Rattle.mp_model.specs.declared.replies.Answer.{Answer}
 use Rattle.mp_model.specs.declared.transcripts.Down.{Down}
@@ -15,6 +14,9 @@ use Rattle.mp_script.specs.Conflicts.{SeesEarlierCommits, HoldsItsKeys}
 use Rattle.mp_script.specs.Execution.{Execution, execution_of}
 use Rattle.mp_script.specs.Legal.{WritesSeeEarlierCommits, KeysAreHeld}
 use Rattle.mp_script.specs.Spelling.{IsSpelled}
+use Rattle.mp_script.proofs.Ordered.{pair_above, all_in, above_in, in_found, from_found, above_found, from_above_found, in_map, from_map, from_above_map, in_filter, from_filter}
+use Rattle.mp_script.proofs.ItemsAbove.{ascend_pairs}
+use Rattle.mp_script.proofs.CountedAnswers.{one_part}
 use Rattle.mp_core_trx.specs.Events.{IsNode}
 use Rattle.mp_core.specs.declared.opening.CoreOpening.{CoreOpening}
 use Rattle.mp_core.specs.World.{CoreWorld}
@@ -22,26 +24,10 @@ use Rattle.mp_core.specs.OwnMtrs.{TrxMtr}
 use Rattle.mp_supports.specs.Work.{Work}
 use Rattle.mp_supports.specs.Kept.{Entry, answers_in}
 use Rattle.mp_verdict.specs.Finished.{Finished}
-use Rattle.mp_verdict.specs.Orders.{NodeEntry, entries_given, IsMerged, StepOrder, IsWholePart, IsStepTranscript}
+use Rattle.mp_verdict.specs.Orders.{NodeEntry, entries_given, IsMerged, StepOrder, IsStepTranscript}
 use Rattle.mp_verdict.specs.Told.{IsToldBy}
-use Rattle.mp_verdict.proofs.Ordered.{Pairwise, pair_above, all_in, above_in, in_found, from_found, above_found, from_above_found, in_map, from_map, from_above_map, in_filter, from_filter}
 use Rattle.mp_verdict.proofs.ToldAnswers.{IsKeptBy, same_node, one_entry}
 use Rattle.mp_verdict.proofs.KeyConflicts.{MtrsRise, see_earlier, hold_keys}
-
--- what ascends rises pairwise
-ascend_from : {T : Type 0} (number : T → ℕ) (low : ℕ) (xs : List T) → AscendsFrom number low xs → (x : T) → IsIn x xs → low ≤ number x
-ascend_from number low [] a x h = absurd h
-ascend_from number low (y ∷ ys) a x (inl e) = let from = a.0 in let same = ap number e in omega (arith, from, same)
-ascend_from number low (y ∷ ys) a x (inr h) = let from = a.0 in let rest = ascend_from number (number y + 1) ys a.1 x h in omega (arith, from, rest)
-
-pub ascend_pairs : {T : Type 0} (number : T → ℕ) (low : ℕ) (xs : List T) → AscendsFrom number low xs → Pairwise (λ a b. number a < number b) xs
-ascend_pairs number low [] a = tt
-ascend_pairs number low (y ∷ ys) a = (λ x there. let above = ascend_from number (number y + 1) ys a.1 x there in omega (arith, above), ascend_pairs number (number y + 1) ys a.1)
-
--- the one part of a list of parts
-pub one_part : (answers : List Answer) (parts : List Part) → IsWholePart answers parts → (part : Part) × (parts ≡ part ∷ []) × (part.primary ≡ 0) × (part.answers.items ≡ answers)
-one_part answers [] h = absurd h
-one_part answers (part ∷ parts) h = (part, ap (λ (ps : List Part). part ∷ ps) h.2, h.0, h.1)
 
 module _ (script : Script) (spelled : IsSpelled script) (work : Work) (opening : Opening) (o : CoreOpening) (w : CoreWorld) (down : ℕ → ℕ) (entries : ℕ → List Entry) (downs : List Down)
     (f : Finished work script opening o w down entries downs) (given : List NodeEntry) (merged : IsMerged o.trx entries given) (order : StepOrder opening.base given)

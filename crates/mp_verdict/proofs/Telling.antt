@@ -1,15 +1,13 @@
 -- The execution of a finished run tells of its world: its acknowledged commits are the durable ones.
-use Rattle.std.proofs.Common.{◌≡◌, ◌≢◌, ℕ, suc, ◌+◌, ◌<◌, ◌≤◌, Bool, true, cond, List, [], ◌∷◌, length, Option, Some, None, is_some, refl, sym, ap, subst, ◌∙◌, inl, inr, arith, eq-eqb}
-use mathlib.Core.Bool.{false≢true}
-use Rattle.std.specs.Prelude.{find}
-use Rattle.std.proofs.lemmas.Bool.{cases_lt, eqb-true}
+use Rattle.std.proofs.Common.{◌≡◌, ◌≢◌, ℕ, suc, ◌+◌, ◌<◌, ◌≤◌, List, length, Option, Some, None, is_some, refl, sym, ap, subst, ◌∙◌, inl, inr, arith, eq-eqb}
+use Rattle.std.proofs.lemmas.Bool.{cases_lt}
 use Rattle.mp_machine.specs.Lists.{IsIn}
 use Rattle.mp_model.specs.declared.histories.Opening.{Opening}
 use Rattle.mp_model.specs.declared.ids.TrxId.{TrxId}
 use Rattle.mp_model.specs.declared.ids.TrxName.{TrxName}
 use Rattle.mp_model.specs.declared.replies.Answer.{Answer}
 use Rattle.mp_model.specs.declared.replies.Reply.{Reply}
-use Rattle.mp_model.specs.declared.replies.Reply.TheVariants.{Began, Got, Scanned, Wrote, Committed, CommittedNone, Unknown, RolledBack, Conflict, Held, Full, Skipped, Stopped}
+use Rattle.mp_model.specs.declared.replies.Reply.TheVariants.{Committed}
 use Rattle.mp_model.specs.declared.transcripts.Down.{Down}
 use Rattle.mp_model.specs.Folded.{value_at}
 use Rattle.mp_script.specs.declared.statements.Line.{Line}
@@ -21,6 +19,12 @@ use Rattle.mp_script.specs.Seen.{acknowledgement}
 use Rattle.mp_script.specs.Spelling.{IsSpelled}
 use Rattle.mp_script.specs.Transactions.{trx_in_lines, trx_of, view_of, statements_before, acknowledged_cts, is_number}
 use Rattle.mp_script.specs.WentDown.{shows_down, is_stopped}
+use Rattle.mp_script.specs.Standing.{StandsAbove}
+use Rattle.mp_script.specs.LastValues.{CommitsAboveViews}
+use Rattle.mp_script.proofs.Options.{some_is, not_some}
+use Rattle.mp_script.proofs.Ordered.{above_or}
+use Rattle.mp_script.proofs.Looking.{line_is, find_one, found_is}
+use Rattle.mp_script.proofs.ReplyForms.{acknowledges}
 use Rattle.mp_cells.specs.declared.rows.Row.{Row}
 use Rattle.mp_core_trx.specs.declared.opening.TrxOpening.{TrxOpening}
 use Rattle.mp_core_trx.specs.declared.part.Draw.{Draw}
@@ -28,7 +32,6 @@ use Rattle.mp_core_trx.specs.Parts.{draw_of, begun_of}
 use Rattle.mp_core_trx.specs.Events.{IsNode}
 use Rattle.mp_core_pages.specs.PageParts.{durable_llsn}
 use Rattle.mp_histories.specs.Histories.{entry_at}
-use Rattle.mp_histories.proofs.Writers.{decided}
 use Rattle.mp_core.specs.declared.opening.CoreOpening.{CoreOpening}
 use Rattle.mp_core.specs.CoreExtends.{durable_of}
 use Rattle.mp_core.specs.World.{CoreWorld, core_part}
@@ -37,57 +40,18 @@ use Rattle.mp_facts.specs.Facts.{opening_pages, made_in, IsForced}
 use Rattle.mp_supports.specs.Work.{Work, name_of}
 use Rattle.mp_supports.specs.Supports.{Trace, commit_trace, IsTrxOf, RecordsCommit, SupportsReply}
 use Rattle.mp_supports.specs.Kept.{Entry}
-use Rattle.mp_verdict.specs.Standing.{StandsAbove}
 use Rattle.mp_verdict.specs.Finished.{Finished}
 use Rattle.mp_verdict.specs.Told.{IsToldBy}
 use Rattle.mp_verdict.specs.Reads.{PutBelow, PutOf}
-use Rattle.mp_verdict.specs.LastValues.{CommitsAboveViews}
 use Rattle.mp_verdict.specs.Writers.{IsValueOf, IsWriter, TellsOfWorld}
-use Rattle.mp_verdict.proofs.Options.{some_is, not_some}
-use Rattle.mp_verdict.proofs.Ordered.{above_or}
 use Rattle.mp_verdict.proofs.OpeningRows.{opening_values}
 use Rattle.mp_verdict.proofs.PlacesOf.{put_of, of_its_node}
 use Rattle.mp_verdict.proofs.OthersFit.{forced_drew}
-use Rattle.mp_verdict.proofs.ScriptLines.{line_is}
 use Rattle.mp_verdict.proofs.WhichTraces.{which_mtr}
 use Rattle.mp_verdict.proofs.KeptOrder.{answer_of, doubt_of, entry_of_mtr, mtrs_up}
 use Rattle.mp_verdict.proofs.ToldAnswers.{IsKeptBy, supported, kept_answer, in_run, view_is}
 use Rattle.mp_verdict.proofs.WriterOf.{writer_is}
-
-find_one : (test : Answer → Bool) (answers : List Answer) (a : Answer) → IsIn a answers → test a ≡ true → ((b : Answer) → IsIn b answers → test b ≡ true → b ≡ a) → find test answers ≡ Some a
-find_one test [] a there passes one = absurd there
-find_one test (x ∷ answers) a there passes one = elim (decided (test x)) [
-  | inl t ↦ ap (λ (b : Bool). cond b (Some x) (find test answers)) t ∙ ap (λ (y : Answer). Some y) (one x (inl refl) t)
-  | inr t ↦ elim there [
-    | inl e ↦ absurd (false≢true (sym t ∙ ap test (sym e) ∙ passes))
-    | inr h ↦ ap (λ (b : Bool). cond b (Some x) (find test answers)) t ∙ find_one test answers a h passes (λ b k. one b (inr k))
-  ]
-]
-
-found_is : (test : Answer → Bool) (answers : List Answer) (a : Answer) → find test answers ≡ Some a → IsIn a answers × (test a ≡ true)
-found_is test [] a e = absurd (not_some a e)
-found_is test (x ∷ answers) a e = elim (decided (test x)) [
-  | inl t ↦
-      let same : x ≡ a = some_is x a (sym (ap (λ (b : Bool). cond b (Some x) (find test answers)) t) ∙ e) in
-      (inl (sym same), subst (λ (y : Answer). test y ≡ true) same t)
-  | inr t ↦ let rest = found_is test answers a (sym (ap (λ (b : Bool). cond b (Some x) (find test answers)) t) ∙ e) in (inr rest.0, rest.1)
-]
-
--- which reply acknowledges a number
-acknowledges : (reply : Reply) (number : ℕ) → is_number number (acknowledged_cts reply) ≡ true → reply ≡ Committed number
-acknowledges (Began view) number e = absurd (false≢true e)
-acknowledges (Got value) number e = absurd (false≢true e)
-acknowledges (Scanned rows) number e = absurd (false≢true e)
-acknowledges (Wrote verb) number e = absurd (false≢true e)
-acknowledges (Committed cts) number e = ap (λ (c : ℕ). Committed c) (eqb-true cts number e)
-acknowledges CommittedNone number e = absurd (false≢true e)
-acknowledges (Unknown cts) number e = absurd (false≢true e)
-acknowledges RolledBack number e = absurd (false≢true e)
-acknowledges (Conflict verb cts) number e = absurd (false≢true e)
-acknowledges (Held verb name) number e = absurd (false≢true e)
-acknowledges (Full verb) number e = absurd (false≢true e)
-acknowledges Skipped number e = absurd (false≢true e)
-acknowledges (Stopped by) number e = absurd (false≢true e)
+use Rattle.mp_verdict.proofs.NextInOrder.{next_in_order}
 
 -- a value that is right up to a limit is so up to a higher one
 value_wider : (o : CoreOpening) (w : CoreWorld) (run : Execution) (trx : TrxName) (id : TrxId) (mtrs : ℕ → TrxMtr) (count limit more place : ℕ) → limit ≤ more → (stmt : Option Stmt) (value : Option (List ℕ)) → IsValueOf o w run trx id mtrs count limit place stmt value → IsValueOf o w run trx id mtrs count more place stmt value
@@ -169,10 +133,10 @@ module _ (script : Script) (spelled : IsSpelled script) (work : Work) (opening :
       elim (above_or c.entry d.entry (entries id.node) c.kept.there d.kept.there) [
         | inl same ↦ some_is a b (sym c.kept.is ∙ ap (λ (e : Entry). e.answer) same ∙ d.kept.is)
         | inr (inl above) ↦
-            let lt = mtrs_up work o w f.facts id.node (down id.node) (entries id.node) (f.kept id.node n) (f.all id.node n) (f.in_order id.node n) c.entry d.entry c.mtr d.mtr above c.made d.made in
+            let lt = mtrs_up work o w f.facts id.node (down id.node) (entries id.node) (f.kept id.node n) (f.all id.node n) (next_in_order script spelled work opening o w down entries downs f id.node n) c.entry d.entry c.mtr d.mtr above c.made d.made in
             absurd (omega (arith, lt, down_to))
         | inr (inr below) ↦
-            let lt = mtrs_up work o w f.facts id.node (down id.node) (entries id.node) (f.kept id.node n) (f.all id.node n) (f.in_order id.node n) d.entry c.entry d.mtr c.mtr below d.made c.made in
+            let lt = mtrs_up work o w f.facts id.node (down id.node) (entries id.node) (f.kept id.node n) (f.all id.node n) (next_in_order script spelled work opening o w down entries downs f id.node n) d.entry c.entry d.mtr c.mtr below d.made c.made in
             absurd (omega (arith, lt, upto))
       ]
 
@@ -200,8 +164,8 @@ module _ (script : Script) (spelled : IsSpelled script) (work : Work) (opening :
         | inr (inl b) ↦ absurd (not_some (draw_of id cts) (sym b.1.commit ∙ g.recorded.commit))
         | inr (inr k) ↦ k.2.restored
       ] in
-      let x = entry_of_mtr work o w f.facts id.node (down id.node) (entries id.node) (f.kept id.node n) (f.all id.node n) (f.in_order id.node n) c g.recorded.was_made whole in
-      let a = answer_of work o w f.facts id.node (down id.node) (entries id.node) (f.kept id.node n) (f.all id.node n) (f.in_order id.node n) x.0 x.1 in
+      let x = entry_of_mtr work o w f.facts id.node (down id.node) (entries id.node) (f.kept id.node n) (f.all id.node n) (next_in_order script spelled work opening o w down entries downs f id.node n) c g.recorded.was_made whole in
+      let a = answer_of work o w f.facts id.node (down id.node) (entries id.node) (f.kept id.node n) (f.all id.node n) (next_in_order script spelled work opening o w down entries downs f id.node n) x.0 x.1 in
       let kept : IsKeptBy script spelled work opening o w down entries downs f run told id.node x.0 a.0 = record { node = n; there = x.1; is = a.1 } in
       let s = supported script spelled work opening o w down entries downs f run told id.node x.0 a.0 kept in
       let durable : c.mtr.llsn ≤ durable_of (core_part w id.node) = subst (λ (l : ℕ). c.mtr.llsn ≤ l) (sym (durable_is id.node)) g.durable in
@@ -229,17 +193,17 @@ module _ (script : Script) (spelled : IsSpelled script) (work : Work) (opening :
                   })),
             )
         | inr (inr (inr q)) ↦
-            let doubt = doubt_of work o w f.facts id.node (down id.node) (entries id.node) (f.kept id.node n) (f.all id.node n) (f.in_order id.node n) x.0 a.0 x.1 a.1 (ap (λ (r : Reply). shows_down r) q.1) c x.2 in
+            let doubt = doubt_of work o w f.facts id.node (down id.node) (entries id.node) (f.kept id.node n) (f.all id.node n) (next_in_order script spelled work opening o w down entries downs f id.node n) x.0 a.0 x.1 a.1 (ap (λ (r : Reply). shows_down r) q.1) c x.2 in
             absurd (omega (arith, doubt, durable))
       ]
 
   -- the writes of an acknowledged commit are its puts
   module _ (id : TrxId) (cts : ℕ) (a : Answer) (c : IsCommitEntry id cts a) where
     up_to : (x : Entry) (m : TrxMtr) → StandsAbove x c.entry (entries id.node) → x.trace.mtr ≡ Some m → m.at < c.mtr.at
-    up_to x m above made = let n = c.kept.node in mtrs_up work o w f.facts id.node (down id.node) (entries id.node) (f.kept id.node n) (f.all id.node n) (f.in_order id.node n) x c.entry m c.mtr above made c.made
+    up_to x m above made = let n = c.kept.node in mtrs_up work o w f.facts id.node (down id.node) (entries id.node) (f.kept id.node n) (f.all id.node n) (next_in_order script spelled work opening o w down entries downs f id.node n) x c.entry m c.mtr above made c.made
 
     from_on : (x : Entry) (m : TrxMtr) → StandsAbove c.entry x (entries id.node) → x.trace.mtr ≡ Some m → c.mtr.at ≤ m.at
-    from_on x m above made = let n = c.kept.node in let lt = mtrs_up work o w f.facts id.node (down id.node) (entries id.node) (f.kept id.node n) (f.all id.node n) (f.in_order id.node n) c.entry x c.mtr m above c.made made in omega (arith, lt)
+    from_on x m above made = let n = c.kept.node in let lt = mtrs_up work o w f.facts id.node (down id.node) (entries id.node) (f.kept id.node n) (f.all id.node n) (next_in_order script spelled work opening o w down entries downs f id.node n) c.entry x c.mtr m above c.made made in omega (arith, lt)
 
     here_on : (m : TrxMtr) → c.entry.trace.mtr ≡ Some m → c.mtr.at ≤ m.at
     here_on m made = let same : c.mtr ≡ m = some_is c.mtr m (sym c.made ∙ made) in let at : c.mtr.at ≡ m.at = ap (λ (k : TrxMtr). k.at) same in omega (arith, at)

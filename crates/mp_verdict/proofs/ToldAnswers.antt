@@ -1,10 +1,9 @@
 -- Looking an answer up in an execution finds the one that a primary kept; a transaction has one id, and the view that its
 -- `begin` was answered.
-use Rattle.std.proofs.Common.{◌≡◌, ℕ, ◌<◌, ◌≤◌, ◌==◌, ◌&&◌, Bool, true, cond, List, [], ◌∷◌, Option, Some, None, refl, sym, ap, subst, ◌∙◌, inl, inr, arith, eq-eqb}
+use Rattle.std.proofs.Common.{◌≡◌, ℕ, ◌<◌, ◌≤◌, Bool, true, cond, List, Option, Some, None, refl, sym, ap, subst, ◌∙◌, inl, inr, arith}
 use mathlib.Core.Bool.{false≢true}
 use Rattle.std.specs.Option.{option_map}
 use Rattle.std.specs.List.{AllByRecursion}
-use Rattle.std.proofs.lemmas.Bool.{eqb-true, and_from, and_parts}
 use Rattle.mp_machine.specs.Lists.{IsIn}
 use Rattle.mp_machine.proofs.Lists.{same_item}
 use Rattle.mp_model.specs.declared.histories.Opening.{Opening}
@@ -12,19 +11,25 @@ use Rattle.mp_model.specs.declared.ids.TrxId.{TrxId}
 use Rattle.mp_model.specs.declared.ids.TrxName.{TrxName}
 use Rattle.mp_model.specs.declared.replies.Answer.{Answer}
 use Rattle.mp_model.specs.declared.replies.Reply.{Reply}
-use Rattle.mp_model.specs.declared.replies.Reply.TheVariants.{Began, Got, Scanned, Wrote, Committed, CommittedNone, Unknown, RolledBack, Conflict, Held, Full, Skipped, Stopped}
+use Rattle.mp_model.specs.declared.replies.Reply.TheVariants.{Wrote}
 use Rattle.mp_model.specs.declared.replies.WriteVerb.{WriteVerb}
 use Rattle.mp_model.specs.declared.transcripts.Down.{Down}
 use Rattle.mp_script.specs.declared.statements.Line.{Line}
 use Rattle.mp_script.specs.declared.statements.Script.{Script}
 use Rattle.mp_script.specs.declared.statements.SessionOn.{SessionOn}
 use Rattle.mp_script.specs.declared.statements.Stmt.{Stmt}
-use Rattle.mp_script.specs.declared.statements.Stmt.TheVariants.{Begin, Get, Put, Del, Copy, Scan, Commit, Rollback}
-use Rattle.mp_script.specs.Execution.{Execution, line_at, stmt_in, stmt_at, answer_at, reply_at}
+use Rattle.mp_script.specs.declared.statements.Stmt.TheVariants.{Begin}
+use Rattle.mp_script.specs.Execution.{Execution, line_at, stmt_in, stmt_at, answer_at, reply_at, is_session_on}
 use Rattle.mp_script.specs.Right.{WritesKey}
 use Rattle.mp_script.specs.SpelledLines.{IsLineInRange}
 use Rattle.mp_script.specs.Spelling.{IsSpelled}
-use Rattle.mp_script.specs.Transactions.{Target, target_of, target_key, begins, trx_in_lines, view_in, view_of, is_wrote, wrote_at}
+use Rattle.mp_script.specs.Transactions.{target_key, begins, trx_in_lines, view_in, view_of, is_wrote, wrote_at}
+use Rattle.mp_script.specs.Standing.{StandsAbove}
+use Rattle.mp_script.proofs.Options.{some_is, not_some}
+use Rattle.mp_script.proofs.Ordered.{above_or, all_in}
+use Rattle.mp_script.proofs.ScriptLines.{IndexesRise, one_primary, lines_rise, lines_within, begin_itself}
+use Rattle.mp_script.proofs.Looking.{line_is, answer_is, answer_found}
+use Rattle.mp_script.proofs.ReplyForms.{target_same, wrote_verb}
 use Rattle.mp_core_trx.specs.declared.part.Begun.{Begun}
 use Rattle.mp_core_trx.specs.Parts.{begun_of}
 use Rattle.mp_core_trx.specs.Events.{IsNode}
@@ -35,65 +40,12 @@ use Rattle.mp_core.specs.World.{CoreWorld, core_part}
 use Rattle.mp_supports.specs.Work.{Work, name_of}
 use Rattle.mp_supports.specs.Supports.{Supports}
 use Rattle.mp_supports.specs.Kept.{Entry}
-use Rattle.mp_verdict.specs.Standing.{StandsAbove}
-use Rattle.mp_verdict.specs.Finished.{is_session_on, Finished}
+use Rattle.mp_verdict.specs.Finished.{Finished}
 use Rattle.mp_verdict.specs.Told.{IsToldBy}
-use Rattle.mp_verdict.proofs.Options.{some_is, not_some}
-use Rattle.mp_verdict.proofs.Ordered.{above_or, all_in}
 use Rattle.mp_verdict.proofs.WhichTraces.{which_begin}
-use Rattle.mp_verdict.proofs.ScriptLines.{IndexesRise, one_primary, lines_rise, lines_within, line_is, begin_itself, one_version}
 use Rattle.mp_verdict.proofs.KeptOrder.{answer_of, support_of, entry_of_begin, index_up, session_here}
-
--- what is looked up is an answer there; and an answer that is the only one of its statement is found
-pub answer_is : (answers : List Answer) (session index : ℕ) (a : Answer) → answer_at answers session index ≡ Some a → IsIn a answers × (a.session ≡ session) × (a.index ≡ index)
-answer_is [] session index a e = absurd (not_some a e)
-answer_is (x ∷ answers) session index a e = elim (decided (x.session == session && x.index == index)) [
-  | inl t ↦
-      let same : x ≡ a = some_is x a (sym (ap (λ (b : Bool). cond b (Some x) (answer_at answers session index)) t) ∙ e) in
-      let both = and_parts (x.session == session) (x.index == index) t in
-      (inl (sym same), ap (λ (y : Answer). y.session) (sym same) ∙ eqb-true x.session session both.0, ap (λ (y : Answer). y.index) (sym same) ∙ eqb-true x.index index both.1)
-  | inr t ↦
-      let rest = answer_is answers session index a (sym (ap (λ (b : Bool). cond b (Some x) (answer_at answers session index)) t) ∙ e) in
-      (inr rest.0, rest.1, rest.2)
-]
-
-pub answer_found : (answers : List Answer) (a : Answer) → IsIn a answers → ((b : Answer) → IsIn b answers → b.session ≡ a.session → b.index ≡ a.index → b ≡ a) → answer_at answers a.session a.index ≡ Some a
-answer_found [] a there one = absurd there
-answer_found (x ∷ answers) a there one = elim (decided (x.session == a.session && x.index == a.index)) [
-  | inl t ↦
-      let both = and_parts (x.session == a.session) (x.index == a.index) t in
-      ap (λ (b : Bool). cond b (Some x) (answer_at answers a.session a.index)) t ∙ ap (λ (y : Answer). Some y) (one x (inl refl) (eqb-true x.session a.session both.0) (eqb-true x.index a.index both.1))
-  | inr t ↦ elim there [
-    | inl e ↦ absurd (false≢true (sym t ∙ and_from (x.session == a.session) (x.index == a.index) (eq-eqb x.session a.session (ap (λ (y : Answer). y.session) (sym e))) (eq-eqb x.index a.index (ap (λ (y : Answer). y.index) (sym e)))))
-    | inr h ↦ ap (λ (b : Bool). cond b (Some x) (answer_at answers a.session a.index)) t ∙ answer_found answers a h (λ b k. one b (inr k))
-  ]
-]
-
--- a write's target is the key that it writes
-pub target_same : (stmt : Stmt) (verb : WriteVerb) (key : ℕ) → target_of stmt ≡ Some (record { verb = verb; key = key }) → target_key (Some stmt) ≡ Some key
-target_same Begin verb key e = absurd (not_some (record { verb = verb; key = key }) e)
-target_same (Get k) verb key e = absurd (not_some (record { verb = verb; key = key }) e)
-target_same (Put k value) verb key e = ap (λ (t : Target). Some t.key) (some_is _ (record { verb = verb; key = key }) e)
-target_same (Del k) verb key e = ap (λ (t : Target). Some t.key) (some_is _ (record { verb = verb; key = key }) e)
-target_same (Copy source k) verb key e = ap (λ (t : Target). Some t.key) (some_is _ (record { verb = verb; key = key }) e)
-target_same (Scan low most) verb key e = absurd (not_some (record { verb = verb; key = key }) e)
-target_same Commit verb key e = absurd (not_some (record { verb = verb; key = key }) e)
-target_same Rollback verb key e = absurd (not_some (record { verb = verb; key = key }) e)
-
-wrote_verb : (reply : Reply) → is_wrote (Some reply) ≡ true → (verb : WriteVerb) × (reply ≡ Wrote verb)
-wrote_verb (Began view) e = absurd (false≢true e)
-wrote_verb (Got value) e = absurd (false≢true e)
-wrote_verb (Scanned rows) e = absurd (false≢true e)
-wrote_verb (Wrote verb) e = (verb, refl)
-wrote_verb (Committed cts) e = absurd (false≢true e)
-wrote_verb CommittedNone e = absurd (false≢true e)
-wrote_verb (Unknown cts) e = absurd (false≢true e)
-wrote_verb RolledBack e = absurd (false≢true e)
-wrote_verb (Conflict verb cts) e = absurd (false≢true e)
-wrote_verb (Held verb name) e = absurd (false≢true e)
-wrote_verb (Full verb) e = absurd (false≢true e)
-wrote_verb Skipped e = absurd (false≢true e)
-wrote_verb (Stopped by) e = absurd (false≢true e)
+use Rattle.mp_verdict.proofs.NamesOfIds.{one_version}
+use Rattle.mp_verdict.proofs.NextInOrder.{next_in_order}
 
 module _ (script : Script) (spelled : IsSpelled script) (work : Work) (opening : Opening) (o : CoreOpening) (w : CoreWorld) (down : ℕ → ℕ) (entries : ℕ → List Entry) (downs : List Down)
     (f : Finished work script opening o w down entries downs) (run : Execution) (told : IsToldBy work opening o entries downs run) where
@@ -111,10 +63,10 @@ module _ (script : Script) (spelled : IsSpelled script) (work : Work) (opening :
     pub is : e.answer ≡ Some a
 
   pub on_node : (n : ℕ) (e : Entry) (a : Answer) → IsKeptBy n e a → is_session_on work.sessions a.session n ≡ true
-  on_node n e a k = session_here work o w f.facts n (down n) (entries n) (f.kept n k.node) (f.all n k.node) (f.in_order n k.node) e a k.there k.is
+  on_node n e a k = session_here work o w f.facts n (down n) (entries n) (f.kept n k.node) (f.all n k.node) (next_in_order script spelled work opening o w down entries downs f n k.node) e a k.there k.is
 
   pub supported : (n : ℕ) (e : Entry) (a : Answer) → IsKeptBy n e a → Supports work (core_part w n) (down n) a e.trace
-  supported n e a k = support_of work o w f.facts n (down n) (entries n) (f.kept n k.node) (f.all n k.node) (f.in_order n k.node) e a k.there k.is
+  supported n e a k = support_of work o w f.facts n (down n) (entries n) (f.kept n k.node) (f.all n k.node) (next_in_order script spelled work opening o w down entries downs f n k.node) e a k.there k.is
 
   pub kept_answer : (a : Answer) → IsIn a run.answers → (n : ℕ) × (e : Entry) × IsKeptBy n e a
   kept_answer a there = let x = told.only a there in (x.0, x.2.0, record { node = x.1; there = x.2.1; is = x.2.2 })
@@ -137,7 +89,7 @@ module _ (script : Script) (spelled : IsSpelled script) (work : Work) (opening :
         absurd (omega (arith, lt, index))
     | inr (inl above) ↦ above
     | inr (inr below) ↦
-        let gt = index_up work o w f.facts n (down n) (entries n) (f.kept n k.node) (f.all n k.node) (f.in_order n k.node) x e b a below l.is k.is (sym session) in
+        let gt = index_up work o w f.facts n (down n) (entries n) (f.kept n k.node) (f.all n k.node) (next_in_order script spelled work opening o w down entries downs f n k.node) x e b a below l.is k.is (sym session) in
         absurd (omega (arith, lt, gt))
   ]
 
@@ -146,10 +98,10 @@ module _ (script : Script) (spelled : IsSpelled script) (work : Work) (opening :
   one_entry n e x a b k l session index = elim (above_or e x (entries n) k.there l.there) [
     | inl same ↦ same
     | inr (inl above) ↦
-        let lt = index_up work o w f.facts n (down n) (entries n) (f.kept n k.node) (f.all n k.node) (f.in_order n k.node) e x a b above k.is l.is session in
+        let lt = index_up work o w f.facts n (down n) (entries n) (f.kept n k.node) (f.all n k.node) (next_in_order script spelled work opening o w down entries downs f n k.node) e x a b above k.is l.is session in
         absurd (omega (arith, lt, index))
     | inr (inr below) ↦
-        let gt = index_up work o w f.facts n (down n) (entries n) (f.kept n k.node) (f.all n k.node) (f.in_order n k.node) x e b a below l.is k.is (sym session) in
+        let gt = index_up work o w f.facts n (down n) (entries n) (f.kept n k.node) (f.all n k.node) (next_in_order script spelled work opening o w down entries downs f n k.node) x e b a below l.is k.is (sym session) in
         absurd (omega (arith, gt, index))
   ]
 
@@ -211,8 +163,8 @@ module _ (script : Script) (spelled : IsSpelled script) (work : Work) (opening :
   -- the view of a transaction is the one that its `begin` was answered
   pub view_is : (n : ℕ) (id : TrxId) (view : ℕ) (name : TrxName) → IsNode o.trx n → IsIn (begun_of id view) (begun_in w.trx n) → name_of work id ≡ Some name → view_of run name ≡ view
   view_is n id view name node h e =
-      let x = entry_of_begin work o w f.facts n (down n) (entries n) (f.kept n node) (f.all n node) (f.in_order n node) (begun_of id view) h in
-      let a = answer_of work o w f.facts n (down n) (entries n) (f.kept n node) (f.all n node) (f.in_order n node) x.0 x.1 in
+      let x = entry_of_begin work o w f.facts n (down n) (entries n) (f.kept n node) (f.all n node) (next_in_order script spelled work opening o w down entries downs f n node) (begun_of id view) h in
+      let a = answer_of work o w f.facts n (down n) (entries n) (f.kept n node) (f.all n node) (next_in_order script spelled work opening o w down entries downs f n node) x.0 x.1 in
       let k : IsKeptBy n x.0 a.0 = record { node = node; there = x.1; is = a.1 } in
       let s = supported n x.0 a.0 k in
       let b = which_begin work (core_part w n) (x.0).trace s.line (down n) (a.0).reply (begun_of id view) s.reply x.2 in

@@ -8,6 +8,7 @@ use Rattle.mp_script.specs.declared.statements.Line.{Line}
 use Rattle.mp_script.specs.declared.statements.Stmt.TheVariants.{Begin, Commit}
 use Rattle.mp_script.specs.Transactions.{trx_in_lines}
 use Rattle.mp_script.specs.Right.{WritesKey}
+use Rattle.mp_script.proofs.Options.{some_is, not_some}
 use Rattle.mp_core_trx.specs.declared.part.Begun.{Begun}
 use Rattle.mp_core_trx.specs.Parts.{draw_of}
 use Rattle.mp_core.specs.declared.part.CorePart.{CorePart}
@@ -15,7 +16,6 @@ use Rattle.mp_core.specs.OwnMtrs.{TrxMtr}
 use Rattle.mp_core.specs.CoreExtends.{durable_of}
 use Rattle.mp_supports.specs.Work.{Work, name_of}
 use Rattle.mp_supports.specs.Supports.{Trace, no_trace, looked_trace, began_trace, wrote_trace, commit_trace, IsTrxOf, Overwrites, RecordsCommit, SupportsReply}
-use Rattle.mp_verdict.proofs.Options.{some_is, not_some}
 
 -- a reply that began a transaction
 pub record IsBeginOf (work : Work) (line : Line) (reply : Reply) (b : Begun) : Type 0 where

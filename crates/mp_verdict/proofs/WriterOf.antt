@@ -19,8 +19,15 @@ use Rattle.mp_script.specs.declared.statements.Stmt.TheVariants.{Begin, Get, Put
 use Rattle.mp_script.specs.Execution.{Execution, line_at, stmt_in, stmt_at}
 use Rattle.mp_script.specs.Spelling.{IsSpelled}
 use Rattle.mp_script.specs.SpelledLines.{HaveTheirBegin}
-use Rattle.mp_script.specs.Transactions.{target_of, target_key, begins, begin_in, trx_in_lines, statements_before, wrote_at}
+use Rattle.mp_script.specs.Transactions.{target_key, begins, begin_in, trx_in_lines, statements_before, wrote_at}
 use Rattle.mp_script.specs.WentDown.{shows_down, is_stopped}
+use Rattle.mp_script.specs.Standing.{StandsAbove}
+use Rattle.mp_script.specs.Answers.{WroteKey}
+use Rattle.mp_script.proofs.Options.{some_is, not_some}
+use Rattle.mp_script.proofs.Ordered.{above_or, all_in}
+use Rattle.mp_script.proofs.Looking.{line_is}
+use Rattle.mp_script.proofs.ScriptLines.{begin_between, begin_upto, have_begins}
+use Rattle.mp_script.proofs.ReplyForms.{target_same, no_begin_writes}
 use Rattle.mp_cells.specs.declared.rows.Row.{Row}
 use Rattle.mp_cells.specs.Writes.{version_of}
 use Rattle.mp_cells.specs.PageView.{PageView}
@@ -35,19 +42,16 @@ use Rattle.mp_core.specs.OwnMtrs.{row_put_by, commit_by_mtr, TrxMtr}
 use Rattle.mp_supports.specs.Work.{Work, name_of}
 use Rattle.mp_supports.specs.Supports.{Trace, IsTrxOf, IsValueWritten, Overwrites, SupportsReply}
 use Rattle.mp_supports.specs.Kept.{Entry}
-use Rattle.mp_verdict.specs.Standing.{StandsAbove}
 use Rattle.mp_verdict.specs.Finished.{Finished}
 use Rattle.mp_verdict.specs.Told.{IsToldBy}
 use Rattle.mp_verdict.specs.Reads.{PutBelow, PutOf, ShowsReader}
-use Rattle.mp_verdict.specs.Writers.{WroteKey, LiesBetween, IsValueOf, IsWriter}
-use Rattle.mp_verdict.proofs.Options.{some_is, not_some}
-use Rattle.mp_verdict.proofs.Ordered.{above_or, all_in}
+use Rattle.mp_verdict.specs.Writers.{LiesBetween, IsValueOf, IsWriter}
 use Rattle.mp_verdict.proofs.PlacesOf.{put_of}
 use Rattle.mp_verdict.proofs.Reading.{read_shows}
-use Rattle.mp_verdict.proofs.ScriptLines.{line_is, begin_between, begin_upto, have_begins}
 use Rattle.mp_verdict.proofs.WhichTraces.{IsPutBy, which_mtr}
 use Rattle.mp_verdict.proofs.KeptOrder.{answer_of, entry_of_mtr, mtrs_up, precedes_of, index_up, stopped_below}
-use Rattle.mp_verdict.proofs.ToldAnswers.{target_same, IsKeptBy, supported, kept_answer, in_run, same_node, above_by_index, one_entry, stmt_here, wrote_there, wrote_is, one_trx, view_is}
+use Rattle.mp_verdict.proofs.ToldAnswers.{IsKeptBy, supported, kept_answer, in_run, same_node, above_by_index, one_entry, stmt_here, wrote_there, wrote_is, one_trx, view_is}
+use Rattle.mp_verdict.proofs.NextInOrder.{next_in_order}
 
 -- ---- the entry that answers a statement
 
@@ -98,17 +102,6 @@ put_or (Some row) = row
 -- a write that was answered ok made an mtr
 pub wrote_put : (work : Work) (p : _) (down : ℕ) (trace : Trace) (line : Line) (verb : WriteVerb) → SupportsReply work p down trace line (Wrote verb) → (m : TrxMtr) × (trace.mtr ≡ Some m) × IsPutBy work p trace line m
 wrote_put work p down trace line verb h = (h.3.1, ap (λ (t : Trace). t.mtr) h.3.3, record { id = h.0; view = h.1; key = h.3.0; verb = verb; trx = h.2; writes = h.3.2; over = h.3.4 })
-
--- what writes a key is no `begin`
-no_begin_writes : (stmt : Stmt) (verb : WriteVerb) (key : ℕ) → target_of stmt ≡ Some (record { verb = verb; key = key }) → begins (Some stmt) ≡ true → ⊥
-no_begin_writes Begin verb key e is = not_some (record { verb = verb; key = key }) e
-no_begin_writes (Get k) verb key e is = false≢true is
-no_begin_writes (Put k value) verb key e is = false≢true is
-no_begin_writes (Del k) verb key e is = false≢true is
-no_begin_writes (Copy source k) verb key e is = false≢true is
-no_begin_writes (Scan low most) verb key e is = false≢true is
-no_begin_writes Commit verb key e is = false≢true is
-no_begin_writes Rollback verb key e is = false≢true is
 
 module _ (script : Script) (spelled : IsSpelled script) (work : Work) (opening : Opening) (o : CoreOpening) (w : CoreWorld) (down : ℕ → ℕ) (entries : ℕ → List Entry) (downs : List Down)
     (f : Finished work script opening o w down entries downs) (run : Execution) (told : IsToldBy work opening o entries downs run)
@@ -227,7 +220,7 @@ module _ (script : Script) (spelled : IsSpelled script) (work : Work) (opening :
       let x = written i key (omega (arith, lt, upto)) wrote in
       let y = written j other upto later in
       let n = last_kept.node in
-      let up = mtrs_up work o w f.facts id.node (down id.node) (entries id.node) (f.kept id.node n) (f.all id.node n) (f.in_order id.node n) x.entry y.entry x.mtr y.mtr (entries_up i j key other x y lt) x.made y.made in
+      let up = mtrs_up work o w f.facts id.node (down id.node) (entries id.node) (f.kept id.node n) (f.all id.node n) (next_in_order script spelled work opening o w down entries downs f id.node n) x.entry y.entry x.mtr y.mtr (entries_up i j key other x y lt) x.made y.made in
       let at : (mtrs i).at ≡ x.mtr.at = ap (λ (m : TrxMtr). m.at) (mtr_here i key x) in
       let at_later : (mtrs j).at ≡ y.mtr.at = ap (λ (m : TrxMtr). m.at) (mtr_here j other y) in
       omega (arith, up, at, at_later)
@@ -237,10 +230,10 @@ module _ (script : Script) (spelled : IsSpelled script) (work : Work) (opening :
   read_between e g there x m made =
       let n = last_kept.node in (
         λ above.
-            let p = precedes_of work o w f.facts id.node (down id.node) (entries id.node) (f.kept id.node n) (f.all id.node n) (f.in_order id.node n) x e above in
+            let p = precedes_of work o w f.facts id.node (down id.node) (entries id.node) (f.kept id.node n) (f.all id.node n) (next_in_order script spelled work opening o w down entries downs f id.node n) x e above in
             subst (λ (y : Option TrxMtr). IfSome y (λ k. k.at < g.height)) made (all_in (λ (h : GivenPage PageView). IfSome x.trace.mtr (λ k. k.at < h.height)) g e.trace.pages p.below there),
         λ below.
-            let p = precedes_of work o w f.facts id.node (down id.node) (entries id.node) (f.kept id.node n) (f.all id.node n) (f.in_order id.node n) e x below in
+            let p = precedes_of work o w f.facts id.node (down id.node) (entries id.node) (f.kept id.node n) (f.all id.node n) (next_in_order script spelled work opening o w down entries downs f id.node n) e x below in
             subst (λ (y : Option TrxMtr). IfSome y (λ k. g.height ≤ k.at)) made (all_in (λ (h : GivenPage PageView). IfSome x.trace.mtr (λ k. h.height ≤ k.at)) g e.trace.pages p.above there),
       )
 
@@ -315,7 +308,7 @@ module _ (script : Script) (spelled : IsSpelled script) (work : Work) (opening :
           let session : a.session ≡ last_answer.session = ap (λ (x : TrxName). x.session) (sym its_name) in
           let first : name.first ≡ begin_in work.lines a.session a.index = ap (λ (x : TrxName). x.first) its_name in
           let n = last_kept.node in
-          let below = index_up work o w f.facts id.node (down id.node) (entries id.node) (f.kept id.node n) (f.all id.node n) (f.in_order id.node n) e last a last_answer above kept.is last_kept.is session in
+          let below = index_up work o w f.facts id.node (down id.node) (entries id.node) (f.kept id.node n) (f.all id.node n) (next_in_order script spelled work opening o w down entries downs f id.node n) e last a last_answer above kept.is last_kept.is session in
           let from = begin_upto work.lines a.session a.index in
           let no_begin : a.index ≢ name.first = λ same.
           let here_begins : begins (stmt_in work.lines a.session (begin_in work.lines a.session a.index)) ≡ true = subst HaveTheirBegin (sym f.work_of.lines) (have_begins script spelled) a.session a.index line found in
@@ -342,8 +335,8 @@ module _ (script : Script) (spelled : IsSpelled script) (work : Work) (opening :
       all_is key m row p =
           let n = last_kept.node in
           let only_put = put_of o w f.facts id.node m row p.was_made p.put in
-          let x = entry_of_mtr work o w f.facts id.node (down id.node) (entries id.node) (f.kept id.node n) (f.all id.node n) (f.in_order id.node n) m p.was_made only_put.restored in
-          let a = answer_of work o w f.facts id.node (down id.node) (entries id.node) (f.kept id.node n) (f.all id.node n) (f.in_order id.node n) x.0 x.1 in
+          let x = entry_of_mtr work o w f.facts id.node (down id.node) (entries id.node) (f.kept id.node n) (f.all id.node n) (next_in_order script spelled work opening o w down entries downs f id.node n) m p.was_made only_put.restored in
+          let a = answer_of work o w f.facts id.node (down id.node) (entries id.node) (f.kept id.node n) (f.all id.node n) (next_in_order script spelled work opening o w down entries downs f id.node n) x.0 x.1 in
           let kept : Keeps x.0 a.0 = record { node = n; there = x.1; is = a.1 } in
           let s = supported script spelled work opening o w down entries downs f run told id.node x.0 a.0 kept in
           let no_commit : (d : Draw) → commit_by_mtr m.mtr ≡ Some d → ⊥ = λ d is. not_some d (sym only_put.commit ∙ is) in
@@ -351,7 +344,7 @@ module _ (script : Script) (spelled : IsSpelled script) (work : Work) (opening :
             | inl q ↦ by_write key m row p x.0 a.0 kept x.2 q.0 q.1 s.line s.found q.2
             | inr (inl q) ↦
                 let above = entry_above x.0 m x.1 x.2 p.below in
-                let stopped = stopped_below work o w f.facts id.node (down id.node) (entries id.node) (f.kept id.node n) (f.all id.node n) (f.in_order id.node n) x.0 last a.0 last_answer above a.1 last_kept.is (ap (λ (r : Reply). shows_down r) q.1) in
+                let stopped = stopped_below work o w f.facts id.node (down id.node) (entries id.node) (f.kept id.node n) (f.all id.node n) (next_in_order script spelled work opening o w down entries downs f id.node n) x.0 last a.0 last_answer above a.1 last_kept.is (ap (λ (r : Reply). shows_down r) q.1) in
                 absurd (false≢true (sym up ∙ stopped))
             | inr (inr (inl q)) ↦ absurd (no_commit (draw_of q.2.id q.0) q.2.records.commit)
             | inr (inr (inr q)) ↦ absurd (no_commit (draw_of q.2.id q.0) q.2.records.commit)

@@ -2,8 +2,6 @@ pub mod Reads
 pub mod Finished
 pub mod Orders
 pub mod WriteOrder
-pub mod LastValues
 pub mod Writers
-pub mod Standing
 pub mod Told
 pub mod Counting

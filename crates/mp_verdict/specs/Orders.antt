@@ -1,19 +1,14 @@
 -- How the answers of primaries are put together in a transcript: in mode Step in the order in which they were given, in
 -- mode Run by primaries.
-use Rattle.std.specs.Prelude.{◌≡◌, ℕ, ◌==◌, List, [], ◌∷◌, map, filter, length}
+use Rattle.std.specs.Prelude.{◌≡◌, ℕ, ◌==◌, List, map, filter}
 use Rattle.std.specs.List.{filter_map, AllByRecursion}
 use Rattle.mp_model.specs.Folded.{AscendsFrom}
 use Rattle.mp_model.specs.declared.histories.Opening.{Opening}
 use Rattle.mp_model.specs.declared.transcripts.Down.{Down}
-use Rattle.mp_model.specs.declared.transcripts.Mode.{Mode}
 use Rattle.mp_model.specs.declared.transcripts.Mode.TheVariants.{Step, Run}
-use Rattle.mp_model.specs.declared.transcripts.Part.{Part}
 use Rattle.mp_model.specs.declared.transcripts.Transcript.{Transcript}
-use Rattle.mp_model.specs.declared.replies.Answer.{Answer}
-use Rattle.mp_script.specs.Execution.{all_answers}
-use Rattle.mp_script.specs.Below.{EachBelow, numbers}
 use Rattle.mp_script.specs.InTheirPart.{count_from}
-use Rattle.mp_script.specs.Numbered.{IfShowsView, CoversAbove}
+use Rattle.mp_script.specs.Answers.{ViewsCover, IsTranscriptOver, IsWholePart}
 use Rattle.mp_core_trx.specs.declared.opening.TrxOpening.{TrxOpening}
 use Rattle.mp_core_trx.specs.Events.{IsNode}
 use Rattle.mp_supports.specs.Kept.{Entry, answers_in}
@@ -35,10 +30,6 @@ pub record IsMerged (opening : TrxOpening) (entries : ℕ → List Entry) (given
   pub of_nodes : AllByRecursion (λ x. IsNode opening x.node) given
   pub each : (n : ℕ) → IsNode opening n → given_by n given ≡ entries n
 
--- each view that is shown covers the commits above it
-abbrev pub ViewsCover : Mode → ℕ → List Answer → Type 0
-ViewsCover mode base answers = EachBelow (λ above answer. IfShowsView answer (CoversAbove mode base above)) [] answers
-
 -- The order in which all answers were given: their mtrs rise in the history, and each view is the greatest commit above it
 pub record StepOrder (base : ℕ) (given : List NodeEntry) : Type 0 where
   pub rising : AscendsFrom (λ m. m.at) 0 (filter_map (λ x. x.entry.trace.mtr) given)
@@ -47,18 +38,6 @@ pub record StepOrder (base : ℕ) (given : List NodeEntry) : Type 0 where
 -- In each primary's order each view is at or above the commits above it
 abbrev pub RunOrder : TrxOpening → (ℕ → List Entry) → Type 0
 RunOrder opening entries = (n : ℕ) → IsNode opening n → ViewsCover Run opening.base.ts (answers_in (entries n))
-
--- what the two transcripts have in common
-pub record IsTranscriptOver (opening : Opening) (downs : List Down) (mode : Mode) (transcript : Transcript) : Type 0 where
-  pub mode_is : transcript.mode ≡ mode
-  pub base : transcript.base ≡ opening.base
-  pub downs_are : transcript.downs.items ≡ downs
-  pub commits : transcript.commits ≡ length (numbers (all_answers transcript))
-
--- one part, of primary 0, has these answers
-abbrev pub IsWholePart : List Answer → List Part → Type 0
-IsWholePart answers [] = ⊥
-IsWholePart answers (part ∷ parts) = (part.primary ≡ 0) × (part.answers.items ≡ answers) × (parts ≡ [])
 
 -- the transcript of a run in mode Step: one part has the answers in the order in which they were given
 pub record IsStepTranscript (opening : Opening) (given : List NodeEntry) (downs : List Down) (transcript : Transcript) : Type 0 where

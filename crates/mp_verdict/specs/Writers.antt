@@ -7,8 +7,10 @@ use Rattle.mp_model.specs.declared.replies.Answer.{Answer}
 use Rattle.mp_script.specs.declared.statements.Stmt.{Stmt}
 use Rattle.mp_script.specs.declared.statements.Stmt.TheVariants.{Put, Del, Copy}
 use Rattle.mp_script.specs.Execution.{Execution, stmt_at}
-use Rattle.mp_script.specs.Transactions.{trx_of, view_of, statements_before, wrote_at}
+use Rattle.mp_script.specs.Transactions.{trx_of, view_of, statements_before}
 use Rattle.mp_script.specs.Seen.{acknowledgement}
+use Rattle.mp_script.specs.LastValues.{CommitsAboveViews}
+use Rattle.mp_script.specs.Answers.{WroteKey}
 use Rattle.mp_cells.specs.declared.rows.Row.{Row}
 use Rattle.mp_histories.specs.Chains.{row_of_key}
 use Rattle.mp_core.specs.declared.opening.CoreOpening.{CoreOpening}
@@ -16,11 +18,6 @@ use Rattle.mp_core.specs.World.{CoreWorld}
 use Rattle.mp_core.specs.OwnMtrs.{TrxMtr}
 use Rattle.mp_facts.specs.Facts.{opening_pages, IsForced}
 use Rattle.mp_verdict.specs.Reads.{PutBelow, PutOf, ShowsReader}
-use Rattle.mp_verdict.specs.LastValues.{CommitsAboveViews}
-
--- the statement of a transaction with this place behind its `begin` was a write of the key that was answered ok
-abbrev pub WroteKey : Execution → TrxName → ℕ → ℕ → Type 0
-WroteKey run trx place key = wrote_at run trx.session (trx.first + suc place) ≡ Some key
 
 -- a height of the history lies between the mtrs of a transaction's writes before a statement and those from it on
 abbrev pub LiesBetween : Execution → TrxName → (ℕ → TrxMtr) → ℕ → ℕ → ℕ → Type 0

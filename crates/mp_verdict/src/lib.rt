@@ -9,7 +9,7 @@ mod numbers;
 mod told;
 mod values;
 
-pub use examples::{law_order_examples, law_word_examples};
+pub use examples::law_order_examples;
 pub use laws::{law_covers, law_read};
 pub use legal::{law_run_legal, law_step_legal};
 pub use numbers::{law_numbered, law_run_rules, law_step_rules};
@@ -17,4 +17,4 @@ pub use told::{
     law_downs_right, law_first_wins, law_reads_right, law_replies_right, law_run_conflicts,
     law_step_conflicts, law_tells, law_waits_right,
 };
-pub use values::{law_scans, law_seen, law_value_in_view};
+pub use values::{law_scans, law_seen};

@@ -2,14 +2,13 @@
 
 ghost use Rattle.std.specs.Prelude.{◌≡◌, ◌⊎◌, ℕ, ◌+◌, ◌<◌, ◌≤◌, List, length};
 ghost use Rattle.std.specs.List.{AllByRecursion};
-ghost use Rattle.mp_model.specs.Folded.{over, before, value_at, KeysAscend};
+ghost use Rattle.mp_model.specs.Folded.{over, value_at, KeysAscend};
 ghost use Rattle.mp_model.specs.declared.ids.TrxId.{TrxId};
 ghost use Rattle.mp_model.specs.declared.ids.TrxName.{TrxName};
 ghost use Rattle.mp_model.specs.declared.key_value.KeyValue.{KeyValue};
-ghost use Rattle.mp_model.specs.declared.key_value.KeyWrite.{KeyWrite};
 ghost use Rattle.mp_script.specs.Execution.{Execution};
 ghost use Rattle.mp_script.specs.Transactions.{view_of};
-ghost use Rattle.mp_script.specs.Seen.{history, rows_of_view};
+ghost use Rattle.mp_script.specs.Seen.{rows_of_view};
 ghost use Rattle.mp_script.specs.Right.{first_rows_from};
 ghost use Rattle.mp_cells.specs.PageView.{PageView};
 ghost use Rattle.mp_cells.specs.Trees.{top};
@@ -21,15 +20,8 @@ ghost use Rattle.mp_core_pages.specs.declared.part.GivenPage.{GivenPage};
 ghost use Rattle.mp_supports.specs.Seeing.{Sees, ScansTo};
 ghost use Rattle.mp_facts.specs.Facts.{Facts};
 ghost use Rattle.mp_verdict.specs.Reads.{ShowsReader};
-ghost use Rattle.mp_verdict.specs.LastValues.{last_value, value_over, first_writes, IsValueInView, CommitsAboveViews};
+ghost use Rattle.mp_script.specs.LastValues.{first_writes};
 ghost use Rattle.mp_verdict.specs.Writers.{LiesBetween, IsWriter, TellsOfWorld};
-
-/// The value of a key after writes is what the last write of it sets, or else the value before them. The rows of a view
-/// have at a key what the latest commit in the view that wrote the key set, or the opening's value.
-pub fn law_value_in_view()
-    ensures over_rows { (key : ℕ) (rows : List KeyValue) (writes : List KeyWrite) → value_at key (over rows writes) ≡ value_over (last_value key writes) (value_at key rows) }
-    ensures in_view { (run : Execution) (key view : ℕ) → CommitsAboveViews run → run.opening.base ≤ view → view ≤ run.opening.base + run.commits → IsValueInView run view key (value_at key (before run.opening.rows.items (history run run.commits) view)) }
-{}
 
 /// Where an execution tells of a world, and the ok writes of a transaction are the puts of an id, the transaction's part
 /// shows it, at a height between its writes, the value that it sees between them.

@@ -1,4 +1,4 @@
-use Rattle.std.proofs.Common.{◌≡◌, ◌<◌, ℕ, true, false, List, [], ◌∷◌, ◌++◌, refl, sym, ap, subst, ◌∙◌, lit≤, arith}
+use Rattle.std.proofs.Common.{◌≡◌, ◌<◌, ℕ, true, false, List, [], ◌∷◌, ◌++◌, refl, sym, ap, subst, ◌∙◌, arith}
 use Rattle.std.specs.List.{AllByRecursion}
 use Rattle.mp_cells.specs.declared.records.Mtr.{Mtr}
 use Rattle.mp_core.specs.CoreExtends.{durable_of}
@@ -31,10 +31,10 @@ returns-clause-nothing_made c = record {
       bytes = refl;
     },
     refl,
+    tt,
   );
   last = λ some. let none : 0 < 0 = some in absurd (omega (arith, none));
   forced = λ e. absurd (true_false e);
-  place = lit≤ tt;
   closed = λ e. absurd (true_false e);
 }
 

@@ -1,5 +1,5 @@
 use Rattle.std.proofs.Common.{refl, arith, ◌≡◌, [], ◌∷◌}
-use Rattle.mp_verdict.proofs.SmallOrders.{no_line}
+use Rattle.mp_script.proofs.DownLines.{no_line}
 use Rattle.mp_verdict.proofs.examples.law_order_examples.Goals as goal
 
 pub returns-clause-puts_nothing : goal.returns-clause-puts_nothing
@@ -7,9 +7,6 @@ returns-clause-puts_nothing c = λ o id key height m row p. p.was_made
 
 pub returns-clause-no_last_put : goal.returns-clause-no_last_put
 returns-clause-no_last_put c = λ o id key height row p. p.is_put.was_made
-
-pub returns-clause-lines : goal.returns-clause-lines
-returns-clause-lines c = refl
 
 pub returns-clause-no_lines : goal.returns-clause-no_lines
 returns-clause-no_lines c = λ work script opening o w entries line f. no_line line 1 o.trx.primaries f.downs_are
@@ -22,9 +19,3 @@ returns-clause-not_merged c = λ opening x entry one m. let same : [] ≡ entry 
 
 pub returns-clause-ordered : goal.returns-clause-ordered
 returns-clause-ordered c = λ base. record { rising = tt; views = tt }
-
-pub returns-clause-whole : goal.returns-clause-whole
-returns-clause-whole c = (refl, refl, refl)
-
-pub returns-clause-not_whole : goal.returns-clause-not_whole
-returns-clause-not_whole c = λ h. let wrong : 1 ≡ 0 = h.0 in absurd (omega (arith, wrong))
