@@ -1,5 +1,5 @@
 //! The buffers of a primary, and how they are found.
-ghost use Rattle.std.specs.Prelude.{◌≡◌, ◌+◌, ◌<◌, [], ◌∷◌, ◌++◌, length, slice_get, Some, None, IfOk, MatchOption};
+ghost use Rattle.std.specs.Prelude.{◌≡◌, ◌+◌, ◌<◌, [], ◌∷◌, ◌++◌, length, slice_get, Some, None, IfOk, IfSome, MatchOption};
 ghost use Rattle.std.specs.Option.{option_map};
 ghost use Rattle.mp_core_pages.specs.declared.opening.TheConstants.{PAGES};
 ghost use Rattle.mp_buffer_fusion.specs.declared.pool.TheConstants.{BUFFERS};
@@ -109,6 +109,17 @@ impl Pool {
         &self.buffers[i].page
     }
 
+    /// The page with this number. `None` where it has no buffer.
+    pub fn find(&self, number: u16) -> Option<&Page>
+        requires { number < PAGES }
+        ensures { MatchOption result (buffer_of self.now number ≡ None) (λ page. (b : Buffer) × (buffer_of self.now number ≡ Some b) × (page.now ≡ b.page)) }
+    {
+        match self.place_of(number) {
+            Some(i) => Some(&self.buffers[i].page),
+            None => None,
+        }
+    }
+
     /// Whether the page has a buffer that is pinned.
     pub fn is_pinned(&self, number: u16) -> bool
         requires { number < PAGES }
@@ -138,9 +149,10 @@ impl Pool {
         usize::from(BUFFERS) - self.buffers.len()
     }
 
-    /// The number of the page in the i-th buffer, from 0. `None` behind the last.
+    /// The number of the page in the i-th buffer, from 0, which has no other buffer. `None` behind the last.
     pub fn buffered(&self, i: usize) -> Option<u16>
-        ensures { result ≡ option_map (λ (b : Buffer). b.number) (slice_get self.now i) }
+        ensures number { result ≡ option_map (λ (b : Buffer). b.number) (slice_get self.now i) }
+        ensures its { IfSome result (λ number. (b : Buffer) × StandsAt self.now number i b) }
     {
         let buffer = self.buffers.get(i)?;
         Some(buffer.number)

@@ -1,5 +1,5 @@
 -- What a slot's word says of a transaction whose version it shows.
-use Rattle.std.proofs.Common.{◌≡◌, ℕ, ◌⊎◌, ◌==◌, Bool, true, false, if◌then◌else◌, refl, sym, ap, subst, inl, inr, ⊎_elim, arith, eq-eqb}
+use Rattle.std.proofs.Common.{◌≡◌, ℕ, ◌⊎◌, ◌∙◌, ◌==◌, Bool, true, false, if◌then◌else◌, refl, sym, ap, subst, inl, inr, ⊎_elim, arith, eq-eqb}
 use Rattle.std.proofs.lemmas.Bool.{eqb-true}
 use Rattle.mp_machine.specs.Machine.{run}
 use Rattle.mp_model.specs.declared.ids.TrxId.{TrxId}
@@ -40,33 +40,41 @@ module _ (o : TrxOpening) (w : TrxWorld) (i : TrxInv o w) (id : TrxId) where
   Right x = SlotIsRight id.node id.slot (begun_in w id.node) (drawn_in w id.node) x
 
   -- by what the slot shows with the transaction's version
-  by_tag : (tag : SlotTag) (cts : ℕ) → Right (shows tag id.version cts) → StatusSays id (status_by tag cts) w
-  by_tag FreeTag cts r =
-      ⊎_elim
-      (λ (u : shows FreeTag id.version cts ≡ unused). none_of_zero (ap (λ (x : Shown). x.version) u))
-      (λ (begun : HasBegun (begun_in w id.node) id). r.free id begun refl (unstamped FreeTag cts r.stamped (λ e. cc)))
-      r.known
-  by_tag ActiveTag cts r =
+  abbrev Slot : Shown → Type 0
+  Slot x = shown_at (slot_rows_in w id.node) id.slot ≡ x
+
+  by_tag : (tag : SlotTag) (cts : ℕ) → Right (shows tag id.version cts) → Slot (shows tag id.version cts) → StatusSays id (status_by tag cts) w
+  by_tag FreeTag cts r s =
+      let free : shows FreeTag id.version cts ≡ shows FreeTag id.version 0 = unstamped FreeTag cts r.stamped (λ e. cc) in (
+        ⊎_elim
+            (λ (u : shows FreeTag id.version cts ≡ unused). none_of_zero (ap (λ (x : Shown). x.version) u))
+            (λ (begun : HasBegun (begun_in w id.node) id). r.free id begun refl free)
+            r.known,
+        s ∙ free,
+      )
+  by_tag ActiveTag cts r s =
       ⊎_elim
       (λ (u : shows ActiveTag id.version cts ≡ unused). two_tags (shows ActiveTag id.version cts) unused u (λ e. absurd (omega arith)))
       (λ (begun : HasBegun (begun_in w id.node) id). (begun, r.active id begun refl (unstamped ActiveTag cts r.stamped (λ e. cc))))
       r.known
-  by_tag PrepTag cts r =
+  by_tag PrepTag cts r s =
       ⊎_elim
       (λ (u : shows PrepTag id.version cts ≡ unused). two_tags (shows PrepTag id.version cts) unused u (λ e. absurd (omega arith)))
       (λ (begun : HasBegun (begun_in w id.node) id). begun)
       r.known
-  by_tag CommittedTag cts r = r.committed id.version cts refl
+  by_tag CommittedTag cts r s = r.committed id.version cts refl
 
-  by_version : (b : Bool) (x : Shown) → (x.version == id.version) ≡ b → Right x → (HasBegun (begun_in w id.node) id → x.version ≡ id.version) → StatusSays id (if b then status_by x.tag x.cts else Other) w
-  by_version true x is r once = by_tag x.tag x.cts (subst Right (λ k. record { tag = x.tag; version = eqb-true x.version id.version is k; cts = x.cts }) r)
-  by_version false x is r once = λ begun. let own = eq-eqb x.version id.version (once begun) in cc
+  by_version : (b : Bool) (x : Shown) → (x.version == id.version) ≡ b → Right x → Slot x → (HasBegun (begun_in w id.node) id → x.version ≡ id.version) → StatusSays id (if b then status_by x.tag x.cts else Other) w
+  by_version true x is r s once =
+      let same : x ≡ shows x.tag id.version x.cts = λ k. record { tag = x.tag; version = eqb-true x.version id.version is k; cts = x.cts } in
+      by_tag x.tag x.cts (subst Right same r) (s ∙ same)
+  by_version false x is r s once = λ begun. let own = eq-eqb x.version id.version (once begun) in cc
 
   pub says : TrxNumbersFit o → StatusSays id (status_of id (shown_of (word_showing (shown_at (slot_rows_in w id.node) id.slot)))) w
   says fair =
       let x = shown_at (slot_rows_in w id.node) id.slot in
       let again = shown_again x (shown_fits o w i fair id.node id.slot).0 in
-      subst (λ y. StatusSays id (status_of id y) w) (sym again) (by_version (x.version == id.version) x refl (i.slots id.node id.slot) (i.once id.node id))
+      subst (λ y. StatusSays id (status_of id y) w) (sym again) (by_version (x.version == id.version) x refl (i.slots id.node id.slot) refl (i.once id.node id))
 
 -- what a load of its slot's word tells of a transaction
 pub stood : (p : ℕ) (id : TrxId) (before after : NodeView) (found : ℕ) → Took (Trx (LoadTit p id.node id.slot)) before found after → Stood before id (status_of id (shown_of found))
