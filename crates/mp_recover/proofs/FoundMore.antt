@@ -1,6 +1,6 @@
 -- What was found, and one mtr more.
-use Rattle.std.proofs.Common.{◌≡◌, ℕ, ◌+◌, ◌-◌, ◌<◌, ◌^◌, nat_lt, Bool, true, false, cond, List, [], ◌∷◌, ◌++◌, map, Option, Some, None, Result, Ok, Err, OnOk, IsTrue, refl, sym, ap, subst, ◌∙◌, inl, inr, arith}
-use Rattle.std.specs.List.{flat_map, AllByRecursion}
+use Rattle.std.proofs.Common.{◌≡◌, ℕ, ◌+◌, ◌<◌, ◌^◌, nat_lt, Bool, true, false, cond, List, [], ◌∷◌, ◌++◌, Option, Some, None, Result, Ok, Err, OnOk, IsTrue, refl, sym, ap, subst, ◌∙◌, inl, inr, arith}
+use Rattle.std.specs.List.{AllByRecursion}
 use Rattle.std.proofs.lemmas.Bool.{cases_Bool, and_parts, ltb-true}
 use Rattle.std.specs.Prelude.{drop, get_or, length}
 use Rattle.std.proofs.lemmas.List.{append-nil, at_drop_more}
@@ -17,7 +17,7 @@ use Rattle.mp_cells.specs.Rows.{IsRow, is_origin, is_writer, is_link}
 use Rattle.mp_cells.proofs.KeyEdits.{All-append}
 use Rattle.mp_recover.specs.declared.commits.CommitId.{CommitId}
 use Rattle.mp_recover.specs.declared.found.Found.{Found}
-use Rattle.mp_recover.specs.Finding.{larger_of, greatest_of, writer_version, row_versions, change_versions, record_versions, records_versions, versions_in, llsns_in, FoundFits, NotesMtr, FoundIn}
+use Rattle.mp_recover.specs.Finding.{larger_of, greatest_of, writer_version, row_versions, change_versions, record_versions, records_versions, versions_in, llsns_in, FoundFits, NotesMtr}
 use Rattle.mp_recover.specs.Redoing.{mtrs_above, commit_ids}
 
 pub greatest_joined : (most : ℕ) (xs ys : List ℕ) → greatest_of most (xs ++ ys) ≡ greatest_of (greatest_of most xs) ys

@@ -1,15 +1,14 @@
 -- The newest counted version of a key is the last write of the commits in ascending timestamp.
-use Rattle.std.proofs.Common.{◌≡◌, ◌≢◌, ◌⊎◌, ℕ, ◌+◌, ◌<◌, ◌≤◌, ◌==◌, Bool, true, false, cond, List, [], ◌∷◌, ◌++◌, Option, Some, None, refl, sym, ap, subst, ◌∙◌, inl, inr, arith}
+use Rattle.std.proofs.Common.{◌≡◌, ◌≢◌, ◌⊎◌, ℕ, ◌<◌, ◌≤◌, ◌==◌, Bool, true, false, cond, List, [], ◌∷◌, ◌++◌, Option, Some, None, refl, sym, ap, subst, ◌∙◌, inl, inr, arith}
 use Rattle.std.specs.Prelude.{nat_lt, map}
-use Rattle.std.specs.List.{flat_map, AllByRecursion, list_any}
+use Rattle.std.specs.List.{flat_map, AllByRecursion}
 use Rattle.std.proofs.lemmas.Bool.{cases_Bool, ltb-true, ltb-false}
 use Rattle.mp_model.specs.declared.ids.TrxId.{TrxId}
 use Rattle.mp_model.specs.declared.key_value.KeyWrite.{KeyWrite}
 use Rattle.mp_cells.specs.declared.rows.Row.{Row}
 use Rattle.mp_cells.specs.Orders.{placed, sorted_by}
-use Rattle.mp_cells.proofs.KeyEdits.{All-append}
-use Rattle.mp_histories.specs.KeyOps.{same_writer, newest_by, newest_below, newest_each, FirstIs, Together}
-use Rattle.mp_histories.specs.Commits.{HasStamp, IsUnder, Falls, StandsFor}
+use Rattle.mp_histories.specs.KeyOps.{same_writer, newest_by, newest_below, newest_each}
+use Rattle.mp_histories.specs.Commits.{HasStamp, Falls, StandsFor}
 use Rattle.mp_histories.specs.Chains.{row_over}
 use Rattle.mp_histories.proofs.Writers.{same_is, same_itself, same_from, other_from, other_is}
 use Rattle.mp_recover.specs.KeptCommits.{KeptCommit, CommitsOnce, stamps_of, last_or_none, last_put, wrote_to, write_of}

@@ -20,3 +20,12 @@ pub mod LastCommits
 pub mod PutKeys
 pub mod RecoveredRows
 pub mod SettledAll
+pub mod RowsBetween
+pub mod RecoveredClean
+pub mod RecoveredImages
+pub mod Checkpointing
+pub mod LoadingNine
+pub mod RecoveredNine
+pub mod NextHeader
+pub mod SavedNine
+pub mod SoundRedone

@@ -49,10 +49,10 @@ module _ {D : Type 0} (g : Ghosts D) (first mid new : List D) (place : ℕ) (res
     | inr apart ↦ sound k (cutting k place lt apart)
   ]
 
-  pub read_refuses : (refusal : LogRefusal) → result ≡ Err refusal → EachTells g first → SoundBelow (seen_at g first) place → RefusesFirst (seen_at g first) (refused_as (place + 1) refusal)
-  read_refuses (refusals.Fault fault) err tell sound = (place, refl, subst (ReadsToEnd (fault_at (seen_at g first) place)) err (found tell), sound)
-  read_refuses refusals.Disk err tell sound = (place, refl, sound)
-  read_refuses refusals.Memory err tell sound = tt
+  pub read_refuses : (refusal : LogRefusal) → place < 8 → result ≡ Err refusal → EachTells g first → SoundBelow (seen_at g first) place → RefusesFirst (seen_at g first) (refused_as (place + 1) refusal)
+  read_refuses (refusals.Fault fault) most err tell sound = ((place, most, refl, subst (ReadsToEnd (fault_at (seen_at g first) place)) err (found tell)), sound)
+  read_refuses refusals.Disk most err tell sound = (place, refl, sound)
+  read_refuses refusals.Memory most err tell sound = tt
 
   pub read_cause : (refusal : LogRefusal) → result ≡ Err refusal → MergeCause g first new (refused_as (place + 1) refusal)
   read_cause (refusals.Fault fault) err = tt

@@ -1,11 +1,10 @@
 -- The rows of settled pages are the stored rows with the commits folded in.
-use Rattle.std.proofs.Common.{◌≡◌, ◌≢◌, ℕ, ◌+◌, ◌<◌, ◌≤◌, ◌==◌, Bool, true, false, cond, List, [], ◌∷◌, ◌++◌, map, Option, Some, None, refl, sym, ap, subst, ◌∙◌, inl, inr, arith}
-use Rattle.std.specs.List.{flat_map, AllByRecursion}
-use Rattle.std.proofs.lemmas.Bool.{cases_Bool, cases_lt, eqb-true, ne_eqb}
+use Rattle.std.proofs.Common.{◌≡◌, ◌≢◌, ℕ, ◌+◌, ◌<◌, ◌≤◌, ◌==◌, Bool, true, false, cond, List, [], ◌∷◌, ◌++◌, Option, Some, None, refl, sym, ap, subst, ◌∙◌, inl, inr, arith}
+use Rattle.std.specs.List.{AllByRecursion}
+use Rattle.std.proofs.lemmas.Bool.{cases_Bool, cases_lt, ne_eqb}
 use Rattle.std.proofs.lemmas.List.{map-append}
 use Rattle.mp_model.specs.declared.ids.TrxId.{TrxId}
-use Rattle.mp_model.specs.declared.key_value.KeyValue.{KeyValue}
-use Rattle.mp_model.specs.Folded.{over, value_at}
+use Rattle.mp_model.specs.Folded.{value_at}
 use Rattle.mp_cells.specs.declared.kinds.Kind.TheVariants.{Leaf}
 use Rattle.mp_cells.specs.declared.records.Mtr.{Mtr}
 use Rattle.mp_cells.specs.declared.rows.Row.{Row}
@@ -13,7 +12,7 @@ use Rattle.mp_cells.specs.declared.children.Child.{Child}
 use Rattle.mp_cells.specs.Mtrs.{IsMtr}
 use Rattle.mp_cells.specs.Rows.{IsRow}
 use Rattle.mp_cells.specs.PageView.{PageView, IsPage, is_of}
-use Rattle.mp_cells.specs.Trees.{PageMap, top, root, Fits, leaves, rows_under, row_at, height_of, rows_in, tree_rows, IsTree, IsClean, IsUnwritten}
+use Rattle.mp_cells.specs.Trees.{PageMap, top, root, Fits, leaves, rows_under, row_at, height_of, rows_in, tree_rows, IsTree}
 use Rattle.mp_cells.specs.Writes.{undo_at, version_of}
 use Rattle.mp_cells.specs.Orders.{sorted_by}
 use Rattle.mp_cells.proofs.KeyEdits.{All-append}
@@ -22,12 +21,12 @@ use Rattle.mp_cells.proofs.TreeSearch.{InRange, root_range, tree_rows_rise}
 use Rattle.mp_cells.proofs.Places.{leaves_fit, leaves_in_range}
 use Rattle.mp_cells.proofs.Spare.{with_none, content_of}
 use Rattle.mp_cells.proofs.Shapes.{kept_leaves}
-use Rattle.mp_histories.specs.Chains.{UndoMap, row_over, LinksTo, IsChain, row_of_key}
+use Rattle.mp_histories.specs.Chains.{UndoMap, row_over, IsChain, row_of_key}
 use Rattle.mp_histories.proofs.CleanRows.{version_key}
 use Rattle.mp_histories.proofs.Lists.{none_some}
-use Rattle.mp_recover.specs.KeptCommits.{KeptCommit, CommitsOnce, kept_commits, stamps_of, wrote_to, present, folded_in}
-use Rattle.mp_recover.specs.Settled.{first_counted, without_writer}
-use Rattle.mp_recover.specs.Settling.{row_settled, rows_settled, leaf_settled, most_steps, steps_down, pages_settled}
+use Rattle.mp_recover.specs.KeptCommits.{KeptCommit, CommitsOnce, kept_commits, present, folded_in}
+use Rattle.mp_recover.specs.Settled.{first_counted}
+use Rattle.mp_recover.specs.Settling.{row_settled, rows_settled, most_steps, steps_down, pages_settled}
 use Rattle.mp_recover.specs.Standing.{ChainStands, ChainsStand}
 use Rattle.mp_recover.proofs.SettledPages.{settled_key}
 use Rattle.mp_recover.proofs.SettledChains.{SoundUndo, linked_row, chain_rows, chain_walked}

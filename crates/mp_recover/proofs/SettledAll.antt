@@ -1,24 +1,24 @@
 -- Pages after a rollback are settled.
-use Rattle.std.proofs.Common.{◌≡◌, ◌≢◌, ℕ, zero, suc, ◌+◌, ◌<◌, ◌≤◌, ◌==◌, Bool, true, false, cond, List, [], ◌∷◌, Option, Some, None, refl, sym, ap, subst, ◌∙◌, inl, inr, arith}
+use Rattle.std.proofs.Common.{◌≡◌, ◌≢◌, ℕ, ◌+◌, ◌<◌, ◌≤◌, true, List, [], ◌∷◌, Some, refl, sym, ap, subst, ◌∙◌, inl, inr, arith}
 use Rattle.std.specs.List.{AllByRecursion}
 use Rattle.std.proofs.lemmas.Bool.{cases_Bool, eq-eqb, ne_eqb}
 use Rattle.mp_model.specs.declared.ids.TrxId.{TrxId}
 use Rattle.mp_cells.specs.declared.kinds.Kind.TheVariants.{Meta, Leaf, Undo}
 use Rattle.mp_cells.specs.declared.rows.Row.{Row}
 use Rattle.mp_cells.specs.Rows.{IsRow}
-use Rattle.mp_cells.specs.PageView.{PageView, bit_of, is_of}
-use Rattle.mp_cells.specs.Trees.{PageMap, IsTree, IsUnwritten, row_at, rows_in, height_of}
+use Rattle.mp_cells.specs.PageView.{PageView, is_of}
+use Rattle.mp_cells.specs.Trees.{PageMap, IsTree, row_at, rows_in, height_of}
 use Rattle.mp_cells.specs.Writes.{undo_at, version_of}
 use Rattle.mp_cells.proofs.KeyOrder.{Rises}
 use Rattle.mp_cells.proofs.Spare.{with_none, content_of, leaf_facts}
 use Rattle.mp_cells.proofs.Places.{row_in_leaf}
-use Rattle.mp_histories.specs.Chains.{UndoMap, row_over, row_of_key}
+use Rattle.mp_histories.specs.Chains.{row_over}
 use Rattle.mp_recover.specs.KeptCommits.{KeptCommit}
-use Rattle.mp_recover.specs.Settled.{first_counted, without_writer, SettledRow, SettledRows, IsSettled}
-use Rattle.mp_recover.specs.Settling.{most_steps, steps_down, row_settled, rows_settled, leaf_settled, pages_settled}
-use Rattle.mp_recover.specs.Standing.{ChainStands, ChainsStand}
+use Rattle.mp_recover.specs.Settled.{without_writer, SettledRow, SettledRows, IsSettled}
+use Rattle.mp_recover.specs.Settling.{most_steps, steps_down, row_settled, rows_settled, pages_settled}
+use Rattle.mp_recover.specs.Standing.{ChainsStand}
 use Rattle.mp_recover.proofs.SettledPages.{leaf_kind, undo_kind}
-use Rattle.mp_recover.proofs.SettledChains.{SoundUndo, chain_walked}
+use Rattle.mp_recover.proofs.SettledChains.{chain_walked}
 use Rattle.mp_recover.proofs.SettledTree.{tree_undo, map_settled, tree_page, undo_page_freed, settled_leaf_page, new_bit}
 
 abbrev RowsRise : ℕ → ℕ → List Row → Type 0

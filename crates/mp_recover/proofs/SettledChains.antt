@@ -1,6 +1,5 @@
 -- A walk down a whole chain ends at its first version that counts.
-use Rattle.std.proofs.Common.{◌≡◌, ◌≢◌, ◌⊎◌, ℕ, zero, suc, ◌+◌, ◌*◌, ◌<◌, ◌≤◌, ◌==◌, Bool, true, false, cond, IsTrue, List, [], ◌∷◌, length, map, Option, Some, None, refl, sym, ap, subst, ◌∙◌, inl, inr, arith}
-use Rattle.std.specs.Prelude.{◌&&◌, nat_lt, nat_le}
+use Rattle.std.proofs.Common.{◌≡◌, ◌≢◌, ℕ, zero, suc, ◌+◌, ◌*◌, ◌<◌, ◌≤◌, ◌==◌, Bool, true, false, IsTrue, List, [], ◌∷◌, length, map, Option, Some, None, refl, sym, ap, subst, ◌∙◌, inl, inr, arith}
 use Rattle.std.specs.List.{AllByRecursion}
 use Rattle.std.proofs.lemmas.Bool.{cases_Bool, cases_eq, and_parts, ltb-true, eq-eqb}
 use Rattle.std.proofs.lemmas.List.{length-map}
@@ -10,12 +9,12 @@ use Rattle.mp_cells.specs.declared.rows.Link.{Link}
 use Rattle.mp_cells.specs.declared.rows.Row.{Row}
 use Rattle.mp_cells.specs.Rows.{IsRow, is_origin, is_writer, is_link}
 use Rattle.mp_cells.specs.Trees.{uses, one_if, IsUnwritten}
-use Rattle.mp_cells.proofs.Uses.{AllBelow, length_most, one_if-other, one_if-same, uses-head}
-use Rattle.mp_histories.specs.Chains.{UndoMap, row_over, LinksTo, IsChain}
+use Rattle.mp_cells.proofs.Uses.{AllBelow, length_most, one_if-other}
+use Rattle.mp_histories.specs.Chains.{UndoMap, row_over, IsChain}
 use Rattle.mp_histories.proofs.ChainFacts.{chain_one}
 use Rattle.mp_histories.proofs.Lists.{some_same, none_some}
 use Rattle.mp_recover.specs.Settled.{is_counted, first_counted}
-use Rattle.mp_recover.specs.Settling.{of_same_key, linked_record, version_below, row_or, step_down, steps_down, most_steps}
+use Rattle.mp_recover.specs.Settling.{step_down, steps_down, most_steps}
 use Rattle.mp_recover.proofs.SettledPages.{steps_fixed, steps_are}
 
 -- each undo record of the 4,096 pages is a row that a page may keep

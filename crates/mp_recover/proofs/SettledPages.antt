@@ -1,28 +1,25 @@
 -- Settling page by page.
-use Rattle.std.proofs.Common.{◌≡◌, ◌≢◌, ◌⊎◌, ℕ, zero, suc, ◌+◌, ◌<◌, ◌≤◌, ◌==◌, Bool, true, false, cond, IsTrue, List, [], ◌∷◌, length, map, Option, Some, None, refl, sym, ap, subst, ◌∙◌, inl, inr, arith}
+use Rattle.std.proofs.Common.{◌≡◌, ◌≢◌, ℕ, zero, suc, ◌+◌, ◌<◌, ◌≤◌, ◌==◌, Bool, true, false, cond, IsTrue, List, [], ◌∷◌, length, Option, Some, None, refl, sym, ap, subst, ◌∙◌, inl, inr, arith}
 use Rattle.std.specs.Prelude.{nat_lt, not, filter, ◌++◌, take, get_or, slice_get}
-use Rattle.std.specs.List.{AllByRecursion, list_any}
 use Rattle.std.proofs.lemmas.Bool.{cases_Bool, cases_lt, cases_eq, lt-ltb, le-ltb, eqb-true}
-use Rattle.std.proofs.lemmas.Bool.Decides.{nat_tests}
 use Rattle.std.proofs.lemmas.List.{length-map, length-append, length-take-le, map-append, take_more}
 use Rattle.std.proofs.lemmas.List.Elements.{filter_more}
 use Rattle.std.proofs.lemmas.Option.{slice_get_past, slice_get_within, get_or_from_slice_get}
 use Rattle.mp_model.specs.declared.ids.TrxId.{TrxId}
 use Rattle.mp_cells.specs.declared.kinds.Kind.{Kind}
 use Rattle.mp_cells.specs.declared.kinds.Kind.TheVariants.{Blank, Meta, Leaf, Inner, Undo}
-use Rattle.mp_cells.specs.declared.rows.Link.{Link}
 use Rattle.mp_cells.specs.declared.rows.Row.{Row}
 use Rattle.mp_cells.specs.Keys.{rises}
 use Rattle.mp_cells.specs.Rows.{IsRow}
-use Rattle.mp_cells.specs.PageView.{PageView, blank_page, is_of, kind_number, is_leaf, are_fences, without_bit, leaf_page, IsPage, count_of}
-use Rattle.mp_cells.specs.Plans.{with_page, page_or}
+use Rattle.mp_cells.specs.PageView.{PageView, blank_page, is_of, kind_number, is_leaf, without_bit, leaf_page, IsPage, count_of}
+use Rattle.mp_cells.specs.Plans.{with_page}
 use Rattle.mp_cells.specs.PageMaps.{page_at}
 use Rattle.mp_cells.specs.Trees.{PageMap}
 use Rattle.mp_cells.specs.Writes.{record_in, undo_at}
 use Rattle.mp_cells.proofs.Spare.{content_of, leaf_facts}
 use Rattle.mp_histories.specs.Chains.{UndoMap}
 use Rattle.mp_recover.specs.Settled.{is_counted, without_writer}
-use Rattle.mp_recover.specs.Settling.{trx_ids, of_same_key, linked_record, version_below, row_or, step_down, steps_down, most_steps, row_settled, rows_settled, leaf_settled, leaves_settled, bits_freed, map_freed, bit_freed, one_freed, undo_freed, undo_pages_freed, pages_settled, undone_in, undone_below}
+use Rattle.mp_recover.specs.Settling.{of_same_key, linked_record, version_below, row_or, step_down, steps_down, most_steps, row_settled, rows_settled, leaf_settled, leaves_settled, bits_freed, map_freed, bit_freed, one_freed, undo_freed, undo_pages_freed, undone_in, undone_below}
 use Rattle.mp_recover.proofs.Redone.{same_maps, test_here, test_other}
 
 -- ---- kinds

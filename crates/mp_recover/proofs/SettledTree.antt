@@ -1,6 +1,5 @@
 -- Settled pages of a tree are a clean tree.
-use Rattle.std.proofs.Common.{◌≡◌, ◌≢◌, ◌⊎◌, ℕ, zero, suc, ◌+◌, ◌<◌, ◌≤◌, ◌^◌, ◌==◌, Bool, true, false, cond, IsTrue, List, [], ◌∷◌, length, map, slice_get, Option, Some, None, refl, sym, ap, subst, ◌∙◌, inl, inr, arith}
-use Rattle.std.specs.Prelude.{nat_lt}
+use Rattle.std.proofs.Common.{◌≡◌, ◌≢◌, ◌⊎◌, ℕ, zero, suc, ◌+◌, ◌<◌, ◌≤◌, ◌==◌, Bool, true, false, cond, List, [], ◌∷◌, length, slice_get, Option, Some, None, refl, sym, ap, subst, ◌∙◌, inl, inr, arith}
 use Rattle.std.specs.List.{AllByRecursion}
 use Rattle.std.proofs.lemmas.Bool.{cases_Bool, cases_lt, cases_eq, lt-ltb, le-ltb}
 use Rattle.std.proofs.lemmas.List.{length-map}
@@ -11,16 +10,16 @@ use Rattle.mp_cells.specs.declared.kinds.Kind.TheVariants.{Blank, Meta, Leaf, In
 use Rattle.mp_cells.specs.declared.rows.Link.{Link}
 use Rattle.mp_cells.specs.declared.rows.Row.{Row}
 use Rattle.mp_cells.specs.Rows.{IsRow}
-use Rattle.mp_cells.specs.PageView.{PageView, IsPage, AreBits, HasContent, blank_page, meta_page, bit_of, without_bit, is_of, kind_number}
-use Rattle.mp_cells.specs.Trees.{PageMap, IsTree, IsUnwritten, one_if, uses, tree_pages, height_of}
+use Rattle.mp_cells.specs.PageView.{PageView, IsPage, AreBits, HasContent, blank_page, bit_of, without_bit, is_of, kind_number}
+use Rattle.mp_cells.specs.Trees.{PageMap, IsTree, IsUnwritten, one_if}
 use Rattle.mp_cells.specs.Writes.{record_in, undo_at}
 use Rattle.mp_cells.proofs.Bits.{without_bit-any, bits_without}
-use Rattle.mp_cells.proofs.Spare.{with_none, of_none, content_of, is_undo, not_undo, in_tree, used_most}
+use Rattle.mp_cells.proofs.Spare.{with_none, of_none, content_of}
 use Rattle.mp_cells.proofs.Uses.{one_if-same}
-use Rattle.mp_cells.proofs.Shapes.{SameNode, SameShape, Keeps, kept_tree}
+use Rattle.mp_cells.proofs.Shapes.{SameNode, SameShape, kept_tree}
 use Rattle.mp_histories.specs.Chains.{UndoMap}
-use Rattle.mp_recover.specs.Settled.{is_counted, without_writer}
-use Rattle.mp_recover.specs.Settling.{linked_record, of_same_key, version_below, row_or, step_down, steps_down, most_steps, row_settled, rows_settled, leaf_settled, leaves_settled, bits_freed, map_freed, undo_freed, undo_pages_freed, pages_settled}
+use Rattle.mp_recover.specs.Settled.{is_counted}
+use Rattle.mp_recover.specs.Settling.{linked_record, of_same_key, version_below, row_or, step_down, steps_down, most_steps, row_settled, rows_settled, leaf_settled, leaves_settled, bits_freed, map_freed, undo_freed, pages_settled}
 use Rattle.mp_recover.proofs.Redone.{test_here, test_other}
 use Rattle.mp_recover.proofs.SettledPages.{leaf_kind, undo_kind, row_kept, settled_leaf, leaf_made}
 use Rattle.mp_recover.proofs.SettledChains.{SoundUndo, linked_row}

@@ -64,3 +64,8 @@ pub record NotesMtr (llsn : ℕ) (records_noted : List Record) (old new : Found)
 pub record FoundIn (llsn version : ℕ) (mtrs : List Mtr) (found : Found) : Type 0 where
   pub llsn_is : found.llsn ≡ greatest_of llsn (llsns_in mtrs)
   pub version_is : found.version ≡ greatest_of version (versions_in mtrs)
+
+-- the newest timestamp of commits, or the old one where there is none
+abbrev pub newest_base : ℕ → List CommitId → ℕ
+newest_base old [] = old
+newest_base old (commit ∷ ids) = greatest_of 0 (map (λ c. c.cts) (commit ∷ ids))

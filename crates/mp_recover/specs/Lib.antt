@@ -9,3 +9,10 @@ pub mod Redoing
 pub mod Finding
 pub mod ReadingLogs
 pub mod SmallLogs
+pub mod Checkpoints
+pub mod Recovering
+pub mod Loading
+pub mod SavingLoaded
+pub mod PresentRows
+pub mod Closed
+pub mod SmallRuns

@@ -8,7 +8,7 @@ use Rattle.mp_log.specs.Reading.{LogCause}
 use Rattle.mp_log.specs.Readers.{log_mtrs}
 use Rattle.mp_recover.specs.declared.refusals.RecoverRefusal.{RecoverRefusal}
 use Rattle.mp_recover.specs.declared.refusals.RecoverRefusal.TheVariants as recover
-use Rattle.mp_recover.specs.Merging.{fault_at}
+use Rattle.mp_recover.specs.Merging.{fault_at, IsOffAt}
 
 -- Ok where there is no fault, and `Fault` at its place
 abbrev pub ReadsToEnd : Option ℕ → Result (Unit {0}) LogRefusal → Type 0
@@ -27,10 +27,9 @@ pub record DidRead {D : Type 0} (g : Ghosts D) (primary : ℕ) (result : Result 
 abbrev pub SoundBelow : (ℕ → List ℕ) → ℕ → Type 0
 SoundBelow files bound = (place : ℕ) → place < bound → fault_at files place ≡ None
 
--- a refusal of a primary's log, and none for those before it
+-- a refusal of a primary's log, one of eight, and none for those before it
 abbrev pub RefusesFirst : (ℕ → List ℕ) → RecoverRefusal → Type 0
-RefusesFirst files (recover.Log primary fault) = (place : ℕ) × (primary ≡ place + 1)
-    × (fault_at files place ≡ Some fault) × SoundBelow files place
+RefusesFirst files (recover.Log primary fault) = (off : IsOffAt files primary fault) × SoundBelow files off.0
 RefusesFirst files (recover.LogDisk primary) = (place : ℕ) × (primary ≡ place + 1) × SoundBelow files place
 RefusesFirst files recover.Memory = Unit {0}
 RefusesFirst files _ = ⊥

@@ -1,6 +1,8 @@
 //! Small cases of the definitions of recovery, good ones and bad ones.
 
-ghost use Rattle.std.specs.Prelude.{◌≡◌, ℕ, List, [], ◌∷◌, Some, None};
+ghost use Rattle.std.specs.Prelude.{◌≡◌, ℕ, true, false, List, [], ◌∷◌, Some, None};
+ghost use Rattle.mp_model.specs.declared.replies.Reply.TheVariants.{Committed};
+ghost use Rattle.mp_script.specs.declared.statements.Stmt.TheVariants.{Get, Scan};
 ghost use Rattle.mp_cells.specs.SmallMaps.{fresh_map, gone_row};
 ghost use Rattle.mp_cells.specs.declared.changes.Change.TheVariants.{PutRow, MakeUndo, PutUndo};
 ghost use Rattle.mp_files.specs.Nine.{Image};
@@ -14,6 +16,8 @@ ghost use Rattle.mp_recover.specs.Standing.{ChainStands, IsRecoverable};
 ghost use Rattle.mp_recover.specs.Images.{CleanImage, SoundImage, logged_above, rows_of_image};
 ghost use Rattle.mp_recover.specs.SmallLogs.{small_commit, stray_commit, small_image, rolled_back};
 ghost use Rattle.mp_recover.specs.Settled.{first_counted, IsSettled};
+ghost use Rattle.mp_recover.specs.Closed.{KeptAreClosed, RestsOn, reads_key};
+ghost use Rattle.mp_recover.specs.SmallRuns.{acknowledged_put, unknown_put, put_then_read, row_of_put, kept_put, answer_without_waits};
 
 /// A put and its commit follow on one another over a fresh map; a restore without the put before it doesn't: its record
 /// wants a page with the put's LLSN. The undo page has two records of one mtr, and a page with that mtr's LLSN has
@@ -28,8 +32,8 @@ pub fn law_order_examples()
     ensures bad { InOrder 0 fresh_map (small_restore ∷ []) → ⊥ }
 {}
 
-/// A commit record keeps the rows that its transaction put in its own log, and no others. No transaction has two. Of two commits of a key the
-/// one with the greater timestamp counts, in whatever order they come.
+/// A commit record keeps the rows that its transaction put in its own log, and no others. No transaction has two. Of two
+/// commits of a key the one with the greater timestamp counts, in whatever order they come.
 pub fn law_kept_examples()
     ensures kept { kept_commits (small_put ∷ small_commit ∷ [])
         ≡ record { id = small_trx 0; cts = 9; puts = small_row ∷ [] } ∷ [] }
@@ -72,4 +76,19 @@ pub fn law_clean_is_sound()
 pub fn law_image_examples()
     ensures fresh { (store : List ℕ) → IsFresh store → CleanImage (small_image store (0 ∷ [])) }
     ensures bad { (store : List ℕ) → SoundImage (small_image store (165 ∷ [])) → ⊥ }
+{}
+
+/// A run whose one commit is acknowledged keeps that commit, with its timestamp and its writes. Where its end is unknown,
+/// it may be kept or not. A commit rests on one that it read, and not on itself.
+pub fn law_kept_closed_examples()
+    ensures acknowledged { KeptAreClosed acknowledged_put (kept_put 1 (row_of_put ∷ []) ∷ []) }
+    ensures lost { KeptAreClosed acknowledged_put [] → ⊥ }
+    ensures renumbered { KeptAreClosed acknowledged_put (kept_put 2 (row_of_put ∷ []) ∷ []) → ⊥ }
+    ensures unwritten { KeptAreClosed acknowledged_put (kept_put 1 [] ∷ []) → ⊥ }
+    ensures unknown { KeptAreClosed unknown_put (kept_put 1 (row_of_put ∷ []) ∷ []) }
+    ensures given_up { KeptAreClosed unknown_put [] }
+    ensures rests { RestsOn put_then_read (answer_without_waits 2 4 (Committed 2)) 2 1 }
+    ensures itself { RestsOn put_then_read (answer_without_waits 2 4 (Committed 2)) 2 2 → ⊥ }
+    ensures scanned { reads_key 7 (Some (Scan 5 1)) ≡ true }
+    ensures unread { reads_key 7 (Some (Get 5)) ≡ false }
 {}

@@ -51,8 +51,8 @@ impl Found {
     }
 }
 
-// The greater of two numbers.
-fn larger(most: u64, other: u64) -> u64
+/// The greater of two numbers.
+pub(crate) fn larger(most: u64, other: u64) -> u64
     ensures { result ≡ larger_of most other }
 {
     if most < other { other } else { most }

@@ -24,10 +24,10 @@ use mp_store::Header;
 use std::alloc::Global;
 
 /// Redoes in 4,096 pages the mtrs of eight logs that are above the base LLSN of a header, by LLSN and among equal ones by
-/// primary, and answers the commits among them, in that order, with the greatest LLSN and version. `Gap` and `NotApplicable` come exactly for the first record that
-/// can't be redone, and those before it stay redone; `Log` only for a log that is off the grammar, at its first fault;
-/// `LogDisk` only where that disk's count of faults rose; `Memory`; and no other refusal. The disks are read, and keep
-/// what they hold.
+/// primary, and answers the commits among them, in that order, with the greatest LLSN and version. `Gap` and
+/// `NotApplicable` come exactly for the first record that can't be redone, and those before it stay redone; `Log` only
+/// for a log that is off the grammar, at its first fault; `LogDisk` only where that disk's count of faults rose;
+/// `Memory`; and no other refusal. The disks are read, and keep what they hold.
 pub fn redo_logs<D: Disk>(
     alloc: Global,
     disks: &mut Disks<D>,

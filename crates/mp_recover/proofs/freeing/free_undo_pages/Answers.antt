@@ -1,6 +1,5 @@
 -- One page more.
-use Rattle.std.proofs.Common.{◌≡◌, ℕ, sym, ap, subst, ◌∙◌, arith}
-use Rattle.mp_cells.specs.PageView.{PageView}
+use Rattle.std.proofs.Common.{◌≡◌, ℕ, ap, ◌∙◌, arith}
 use Rattle.mp_cells.specs.PageMaps.{page_at}
 use Rattle.mp_cells.specs.Trees.{PageMap}
 use Rattle.mp_recover.specs.Settling.{undo_pages_freed}

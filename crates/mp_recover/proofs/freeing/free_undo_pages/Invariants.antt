@@ -1,5 +1,5 @@
 -- The undo pages below the number are freed.
-use Rattle.std.proofs.Common.{◌≡◌, ◌≤◌, length}
+use Rattle.std.proofs.Common.{◌≡◌, length}
 use Rattle.mp_cells.specs.PageMaps.{page_at}
 use Rattle.mp_recover.specs.Settling.{undo_pages_freed}
 use Rattle.mp_recover.proofs.freeing.free_undo_pages.Given as goal

@@ -21,7 +21,7 @@ returns-in-Err-clause-finds g c = λ tell.
     let e = c.in-Err.ensures in let inv = c.loop-place.invariant in
     subst (RefusesFirst (seen_at g.D.Disk c.args.logs.now.items)) (sym c.refused_as.ensures)
     (read_refuses g.D.Disk c.args.logs.now.items c.loop-place.logs.items c.read_at.new.logs.items c.loop-place.place (Err c.in-Err.refusal) inv.0
-    (omega (arith, inv.0.count, c.requires, c.loop-place-test.true)) e.count e.others e.did c.in-Err.refusal refl tell (inv.1 tell))
+    (omega (arith, inv.0.count, c.requires, c.loop-place-test.true)) e.count e.others e.did c.in-Err.refusal c.loop-place-test.true refl tell (inv.1 tell))
 
 pub returns-in-Err-clause-cause : goal.returns-in-Err-clause-cause
 returns-in-Err-clause-cause g c =

@@ -1,7 +1,6 @@
 -- The leaves, and then the undo pages.
 use Rattle.std.proofs.Common.{◌≡◌, sym, ap, subst, ◌∙◌}
 use Rattle.mp_cells.specs.PageMaps.{page_at}
-use Rattle.mp_cells.specs.Trees.{PageMap}
 use Rattle.mp_recover.specs.Settled.{IsSettled}
 use Rattle.mp_recover.specs.Settling.{trx_ids, leaves_settled, undo_pages_freed, pages_settled}
 use Rattle.mp_recover.proofs.Redone.{same_maps}

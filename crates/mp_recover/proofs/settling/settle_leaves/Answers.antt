@@ -1,5 +1,5 @@
 -- One page more.
-use Rattle.std.proofs.Common.{◌≡◌, ℕ, ◌+◌, ◌*◌, ◌≤◌, sym, ap, subst, ◌∙◌, arith}
+use Rattle.std.proofs.Common.{◌≡◌, ℕ, sym, ap, ◌∙◌, arith}
 use Rattle.mp_cells.specs.PageMaps.{page_at}
 use Rattle.mp_cells.specs.Trees.{PageMap}
 use Rattle.mp_recover.specs.Settling.{trx_ids, undone_below}

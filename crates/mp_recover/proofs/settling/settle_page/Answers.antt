@@ -1,13 +1,12 @@
 -- A leaf with its rows settled.
-use Rattle.std.proofs.Common.{◌≡◌, ℕ, true, List, IsTrue, Some, slice_get, slice_set, sym, ap, subst, ◌∙◌, arith}
+use Rattle.std.proofs.Common.{◌≡◌, ℕ, true, List, IsTrue, slice_get, slice_set, sym, ap, subst, ◌∙◌, arith}
 use Rattle.mp_cells.specs.declared.kinds.Kind.TheVariants.{Leaf}
 use Rattle.mp_cells.specs.declared.rows.Row.{Row}
-use Rattle.mp_cells.specs.PageView.{PageView, blank_page, is_leaf, leaf_page, is_of}
+use Rattle.mp_cells.specs.PageView.{blank_page, is_leaf, leaf_page, is_of}
 use Rattle.mp_cells.specs.Plans.{with_page, page_or}
 use Rattle.mp_cells.specs.PageMaps.{page_at}
-use Rattle.mp_cells.specs.Trees.{PageMap}
 use Rattle.mp_cells.specs.Writes.{undo_at}
-use Rattle.mp_recover.specs.Settling.{trx_ids, rows_settled, leaf_settled}
+use Rattle.mp_recover.specs.Settling.{trx_ids, leaf_settled}
 use Rattle.mp_recover.proofs.Redone.{page_at_set}
 use Rattle.mp_recover.proofs.SettledPages.{settled_leaf, page_is_leaf, leaf_made}
 use Rattle.mp_recover.proofs.settling.settle_page.Goals as goal

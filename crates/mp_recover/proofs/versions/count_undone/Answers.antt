@@ -1,8 +1,5 @@
 -- One row more.
-use Rattle.std.proofs.Common.{◌≡◌, ◌≤◌, length, take, sym, ap, subst, ◌∙◌, arith}
-use Rattle.std.specs.Prelude.{filter, not}
-use Rattle.std.proofs.lemmas.List.{take_all}
-use Rattle.mp_recover.specs.Settled.{is_counted}
+use Rattle.std.proofs.Common.{arith}
 use Rattle.mp_recover.specs.Settling.{trx_ids}
 use Rattle.mp_recover.proofs.SettledPages.{leaf_count, leaf_most, counted_next}
 use Rattle.mp_recover.proofs.versions.count_undone.Goals as goal

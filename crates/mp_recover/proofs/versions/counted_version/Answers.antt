@@ -1,9 +1,9 @@
 -- One step more, until a version counts or has none below it.
-use Rattle.std.proofs.Common.{◌≡◌, ℕ, ◌+◌, refl, sym, ap, subst, ◌∙◌, arith}
+use Rattle.std.proofs.Common.{refl, sym, ◌∙◌, arith}
 use Rattle.mp_cells.specs.PageMaps.{page_at}
 use Rattle.mp_cells.specs.Writes.{undo_at}
-use Rattle.mp_recover.specs.Settling.{trx_ids, steps_down, most_steps}
-use Rattle.mp_recover.proofs.SettledPages.{steps_fixed, steps_are, fixed_counted, fixed_last, moves_down, left_next, left_none}
+use Rattle.mp_recover.specs.Settling.{trx_ids, most_steps}
+use Rattle.mp_recover.proofs.SettledPages.{steps_fixed, steps_are, fixed_counted, fixed_last, left_none}
 use Rattle.mp_recover.proofs.versions.counted_version.Goals as goal
 
 pub loop-step-init : goal.loop-step-init

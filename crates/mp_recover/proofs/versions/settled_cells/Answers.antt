@@ -1,8 +1,7 @@
 -- One row more.
-use Rattle.std.proofs.Common.{◌≡◌, ◌≤◌, List, [], ◌∷◌, ◌++◌, length, take, sym, ap, subst, ◌∙◌, arith}
+use Rattle.std.proofs.Common.{◌≤◌, [], ◌∷◌, length, sym, subst, arith}
 use Rattle.std.specs.List.{AllByRecursion}
 use Rattle.mp_cells.specs.Rows.{IsRow}
-use Rattle.mp_cells.specs.declared.rows.Row.{Row}
 use Rattle.mp_cells.specs.PageMaps.{page_at}
 use Rattle.mp_cells.specs.Writes.{undo_at}
 use Rattle.mp_cells.proofs.KeyEdits.{All-append}
