@@ -44,6 +44,13 @@ step_from() { "$mp" step < "$1"; }
 
 timed "step, 10,000 statements, 9,998 puts of distinct keys" step_from puts.mps
 timed "step, a script of 1,048,576 bytes with 10,000 statements" step_from longest.mps
+# the logs that a crash leaves of four primaries, over a fresh store; the bound is 50 ms for the first, 300 ms for the second
+for commits in 752 10000; do
+    "$mp" init > out
+    python3 "$root/bench/logs.py" "$commits"
+    timed "recover, $commits commits in four logs over a fresh store, 512 rows" "$mp" recover
+done
+
 timed "mp_bench, 40,960 full leaves filled, written and read" "$bench" pages 40960
 timed "mp_bench, 100,000 mtrs of four records made, written and read" "$bench" mtrs 100000
 timed "mp_bench, 100 times 200 transactions over a shared table, by one thread" "$bench" commits 100

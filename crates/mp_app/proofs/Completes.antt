@@ -3,26 +3,29 @@ use Rattle.std.proofs.Common.{◌≡◌, ◌∙◌, ◌≤◌, ◌⊎◌, ℕ, L
 use Rattle.std.proofs.lemmas.List.{take_all}
 use Rattle.mp_outside.specs.declared.disks.Disk.{Ghosts}
 use Rattle.mp_files.specs.declared.disks.Disks.{Disks}
-use Rattle.mp_files.specs.Nine.{seen_at}
+use Rattle.mp_files.specs.Nine.{seen_at, as_read}
 use Rattle.mp_commands.specs.LogTexts.{LogFault, fault_below, TellBelow}
 use Rattle.mp_commands.proofs.LogsBelow.{fault_stays, all_below}
 use Rattle.mp_commands.specs.Fresh.{Explains}
 use Rattle.mp_commands.specs.declared.faults.DiskFault.{DiskFault}
 use Rattle.mp_commands.specs.declared.faults.DiskFault.TheVariants.{Store as StoreFailed, Log as LogFailed}
+use Rattle.mp_recover.specs.declared.refusals.RecoverRefusal.{RecoverRefusal}
+use Rattle.mp_recover.specs.declared.refusals.RecoverRefusal.TheVariants as recover
+use Rattle.mp_recover.specs.Recovering.{RefusesBy}
 use Rattle.mp_script.proofs.ScriptLaws.{spelled-no_fault, spelled-once}
 use Rattle.mp_script.specs.declared.statements.Script.{Script}
 use Rattle.mp_script.specs.OneSession.{IsPlain}
 use Rattle.mp_script.specs.Spelling.{Spells, IsSameScript}
 use Rattle.mp_app.specs.declared.commands.Command.{Command}
 use Rattle.mp_app.specs.declared.commands.Command.TheVariants.{Session, Plain}
-use Rattle.mp_app.specs.declared.commands.PlainCommand.TheVariants.{Init, Dump, Logs}
+use Rattle.mp_app.specs.declared.commands.PlainCommand.TheVariants.{Init, Recover, Dump, Logs}
 use Rattle.mp_app.specs.declared.commands.SessionCommand.TheVariants.{Step}
 use Rattle.mp_app.specs.declared.status.Status.{Status}
 use Rattle.mp_app.specs.declared.status.Status.TheVariants.{Done, Usage, Script as BadScript, Store, Stopped, Source, Sink, Disk, Memory}
 use Rattle.mp_app.specs.Calls.{SourceUse, ReadUpToTheBound}
 use Rattle.mp_app.specs.Commands.{Names}
-use Rattle.mp_app.specs.Complete.{HasScript, NothingRose, IsInOrder}
-use Rattle.mp_app.specs.Outcomes.{RefusesItsScript, HasFault, IsNotBuilt, StepSays, DumpSays, InitSays, LogsSays, CommandSays, Says}
+use Rattle.mp_app.specs.Complete.{HasScript, NothingRose, MayRecover, IsInOrder}
+use Rattle.mp_app.specs.Outcomes.{RefusesItsScript, HasFault, IsNotBuilt, StepSays, DumpSays, InitSays, IsOfContent, FaultsRose, RecoverSays, LogsSays, CommandSays, Says}
 use Rattle.mp_app.proofs.NamedOnce.{named_once}
 
 -- done, or no memory
@@ -109,9 +112,38 @@ module _ {D : Type 0} (g : Ghosts D) (source : SourceUse) (sink sink_after : ℕ
   logs_answered order Disk text says = absurd (nothing.no_log says.primary says.failed.rose)
   logs_answered order Memory text says = inr refl
 
+  -- nothing that these disks hold is refused
+  no_refusal : MayRecover g old → (refusal : RecoverRefusal) → IsOfContent refusal → RefusesBy (as_read g old) refusal → ⊥
+  no_refusal may (recover.Store place) content refuses = none_some may.no_fault.store refuses
+  no_refusal may recover.StoreDisk content refuses = content
+  no_refusal may (recover.Log primary place) content refuses =
+      let off = refuses.1.0 in
+      none_some (may.no_fault.logs off.0 off.1) off.3
+  no_refusal may (recover.LogDisk primary) content refuses = content
+  no_refusal may (recover.Gap page wanted found) content refuses = none_some may.redone refuses.1
+  no_refusal may (recover.NotApplicable page llsn) content refuses = none_some may.redone refuses.1
+  no_refusal may (recover.Spent last) content refuses = may.not_spent refuses.2
+  no_refusal may recover.Memory content refuses = content
+
+  no_faults_rose : (fault : DiskFault) → FaultsRose g fault old new → ⊥
+  no_faults_rose StoreFailed rose = nothing.no_store rose
+  no_faults_rose (LogFailed primary) rose = nothing.no_log primary rose
+
+  recover_answered : MayRecover g old → (status : Status) (text : List ℕ) → RecoverSays g old new status text → IsAnswered status
+  recover_answered may Done text says = inl refl
+  recover_answered may Usage text says = absurd says
+  recover_answered may BadScript text says = absurd says
+  recover_answered may Store text says = absurd (no_refusal may says.refusal says.content (says.first may.told))
+  recover_answered may Stopped text says = absurd says
+  recover_answered may Source text says = absurd says
+  recover_answered may Sink text says = absurd says
+  recover_answered may Disk text says = absurd (no_faults_rose says.fault says.rose)
+  recover_answered may Memory text says = inr refl
+
   command_answered : (command : Command) → IsInOrder g command source old → (status : Status) (text : List ℕ) → CommandSays g command source old new status text → IsAnswered status
   command_answered (Session Step) order = step_answered order
   command_answered (Plain Init) order = init_answered
+  command_answered (Plain Recover) order = recover_answered order
   command_answered (Plain Dump) order = dump_answered order
   command_answered (Plain Logs) order = logs_answered order
 

@@ -3,7 +3,7 @@ use Rattle.std.proofs.Common.{◌≡◌, ◌∙◌, ◌==◌, if◌then◌else�
 use Rattle.mp_app.specs.declared.commands.Command.{Command}
 use Rattle.mp_app.specs.declared.commands.Command.TheVariants.{Session, Plain}
 use Rattle.mp_app.specs.declared.commands.PlainCommand.{PlainCommand}
-use Rattle.mp_app.specs.declared.commands.PlainCommand.TheVariants.{Init, Dump, Logs}
+use Rattle.mp_app.specs.declared.commands.PlainCommand.TheVariants.{Init, Recover, Dump, Logs}
 use Rattle.mp_app.specs.declared.commands.SessionCommand.{SessionCommand}
 use Rattle.mp_app.specs.declared.commands.SessionCommand.TheVariants.{Step}
 use Rattle.mp_app.specs.Commands.{words_of, Names}
@@ -16,12 +16,13 @@ letter ((c ∷ cs) ∷ words) = c
 
 -- the command with a first letter
 command_by : ℕ → Command
-command_by c = if c == 115 then Session Step else (if c == 105 then Plain Init else (if c == 100 then Plain Dump else Plain Logs))
+command_by c = if c == 115 then Session Step else (if c == 105 then Plain Init else (if c == 114 then Plain Recover else (if c == 100 then Plain Dump else Plain Logs)))
 
 by_letter : (command : Command) → command_by (letter (words_of command)) ≡ command
 unfolding letter command_by
 by_letter (Session Step) = refl
 by_letter (Plain Init) = refl
+by_letter (Plain Recover) = refl
 by_letter (Plain Dump) = refl
 by_letter (Plain Logs) = refl
 

@@ -1,22 +1,23 @@
 -- What a command says is what the call says whose words name it.
-use Rattle.std.proofs.Common.{◌≡◌, ◌∙◌, ℕ, List, Option, inl, inr, Err, sym, subst}
+use Rattle.std.proofs.Common.{◌≡◌, ◌≢◌, ◌∙◌, ℕ, List, Option, inl, inr, Err, sym, subst}
 use Rattle.mp_outside.specs.declared.disks.Disk.{Ghosts}
 use Rattle.mp_files.specs.declared.disks.Disks.{Disks}
+use Rattle.mp_files.specs.Nine.{KeptNine}
 use Rattle.mp_commands.specs.Fresh.{Made}
 use Rattle.mp_app.specs.declared.commands.Command.{Command}
 use Rattle.mp_app.specs.declared.commands.Command.TheVariants.{Session, Plain}
 use Rattle.mp_app.specs.declared.commands.PlainCommand.{PlainCommand}
-use Rattle.mp_app.specs.declared.commands.PlainCommand.TheVariants.{Init, Dump, Logs}
+use Rattle.mp_app.specs.declared.commands.PlainCommand.TheVariants.{Init, Recover, Dump, Logs}
 use Rattle.mp_app.specs.declared.commands.SessionCommand.{SessionCommand}
 use Rattle.mp_app.specs.declared.commands.SessionCommand.TheVariants.{Step}
 use Rattle.mp_app.specs.declared.commands.WordsRefusal.{WordsRefusal}
 use Rattle.mp_app.specs.declared.commands.WordsRefusal.TheVariants.{Usage, Memory}
 use Rattle.mp_app.specs.declared.output.Output.{Output}
 use Rattle.mp_app.specs.declared.status.Status.{Status}
-use Rattle.mp_app.specs.declared.status.Status.TheVariants.{Done, Usage as UsageStatus, Sink, Memory as NoMemory}
+use Rattle.mp_app.specs.declared.status.Status.TheVariants.{Done, Usage as UsageStatus, Store, Sink, Memory as NoMemory}
 use Rattle.mp_app.specs.Calls.{SourceUse}
 use Rattle.mp_app.specs.Commands.{Names, ReadsWords}
-use Rattle.mp_app.specs.Outcomes.{StepSays, InitSays, CommandSays, Says, WritesFront}
+use Rattle.mp_app.specs.Outcomes.{StepSays, InitSays, Recovers, RecoverSays, CommandSays, Says, WritesFront}
 use Rattle.mp_app.specs.Printed.{text_of, PrintsWordsRefusal}
 use Rattle.mp_app.specs.Texts.{no_memory_text}
 
@@ -30,6 +31,13 @@ no_done {s} done sink = differ (sym done ∙ sink)
 pub done_no_sink : (status : Status) → status ≡ Done → status ≡ Sink → ⊥
 done_no_sink status done sink = no_done done sink
 
+-- so has one that refuses the content of disks
+pub store_no_sink : (status : Status) → status ≡ Store → status ≡ Sink → ⊥
+store_no_sink status store sink = differ (sym store ∙ sink)
+  where
+    differ : Store ≡ Sink → ⊥
+    differ e = cc
+
 module _ {D : Type 0} (g : Ghosts D) where
   pub session_said : (command : SessionCommand) (source : SourceUse) (old new : Disks D) (status : Status) (text : List ℕ)
       → StepSays source status text → CommandSays g (Session command) source old new status text
@@ -42,6 +50,7 @@ module _ {D : Type 0} (g : Ghosts D) where
   memory_said : (command : Command) (source : SourceUse) (old new : Disks D) (text : List ℕ) → text ≡ no_memory_text → CommandSays g command source old new NoMemory text
   memory_said (Session Step) source old new text is = is
   memory_said (Plain Init) source old new text is = is
+  memory_said (Plain Recover) source old new text is = is
   memory_said (Plain Dump) source old new text is = is
   memory_said (Plain Logs) source old new text is = is
 
@@ -54,6 +63,7 @@ module _ {D : Type 0} (g : Ghosts D) where
   sink_said : (command : Command) (source : SourceUse) (old new : Disks D) (text : List ℕ) → CommandSays g command source old new Sink text → ⊥
   sink_said (Session Step) source old new text says = says
   sink_said (Plain Init) source old new text says = says
+  sink_said (Plain Recover) source old new text says = says
   sink_said (Plain Dump) source old new text says = says
   sink_said (Plain Logs) source old new text says = says
 
@@ -67,6 +77,25 @@ module _ {D : Type 0} (g : Ghosts D) where
   made_said command source old new status text says init done =
       let at_done : InitSays g old new Done text = subst (λ s. InitSays g old new s text) done (subst (λ (k : PlainCommand). CommandSays g (Plain k) source old new status text) init says) in
       at_done.0
+
+  -- where `recover` is done, the disks are recovered
+  pub recovered_said : (command : PlainCommand) (source : SourceUse) (old new : Disks D) (status : Status) (text : List ℕ)
+      → CommandSays g (Plain command) source old new status text → command ≡ Recover → status ≡ Done → Recovers g old new
+  recovered_said command source old new status text says recover done =
+      let at_done : RecoverSays g old new Done text = subst (λ s. RecoverSays g old new s text) done (subst (λ (k : PlainCommand). CommandSays g (Plain k) source old new status text) recover says) in
+      at_done.recovers
+
+  -- where the content of disks is refused, they are as they were: `init` refuses none, and `recover` says so
+  refused_said : (command : PlainCommand) (source : SourceUse) (old new : Disks D) (text : List ℕ) → CommandSays g (Plain command) source old new Store text
+      → (command ≢ Init → command ≢ Recover → KeptNine g old new) → KeptNine g old new
+  refused_said Init source old new text says others = absurd says
+  refused_said Recover source old new text says others = says.kept
+  refused_said Dump source old new text says others = others (λ is. absurd cc) (λ is. absurd cc)
+  refused_said Logs source old new text says others = others (λ is. absurd cc) (λ is. absurd cc)
+
+  pub kept_said : (command : PlainCommand) (source : SourceUse) (old new : Disks D) (status : Status) (text : List ℕ)
+      → CommandSays g (Plain command) source old new status text → (command ≢ Init → command ≢ Recover → KeptNine g old new) → status ≡ Store → KeptNine g old new
+  kept_said command source old new status text says others is = refused_said command source old new text (subst (λ s. CommandSays g (Plain command) source old new s text) is says) others
 
 -- words that weren't read end with another status than that the command is done
 pub refusal_not_done : (refusal : WordsRefusal) (output : Output) → PrintsWordsRefusal refusal output → output.status ≡ Done → {P : Type 0} → P

@@ -2,7 +2,7 @@
 use Rattle.std.specs.Prelude.{◌≡◌, ℕ, List, [], ◌∷◌, codes, Result, Ok, Err}
 use Rattle.mp_app.specs.declared.commands.Command.{Command}
 use Rattle.mp_app.specs.declared.commands.Command.TheVariants.{Session, Plain}
-use Rattle.mp_app.specs.declared.commands.PlainCommand.TheVariants.{Init, Dump, Logs}
+use Rattle.mp_app.specs.declared.commands.PlainCommand.TheVariants.{Init, Recover, Dump, Logs}
 use Rattle.mp_app.specs.declared.commands.SessionCommand.TheVariants.{Step}
 use Rattle.mp_app.specs.declared.commands.WordsRefusal.{WordsRefusal}
 use Rattle.mp_app.specs.declared.commands.WordsRefusal.TheVariants.{Usage, Memory}
@@ -11,6 +11,7 @@ use Rattle.mp_app.specs.declared.commands.WordsRefusal.TheVariants.{Usage, Memor
 abbrev pub words_of : Command → List (List ℕ)
 words_of (Session Step) = codes "step" ∷ []
 words_of (Plain Init) = codes "init" ∷ []
+words_of (Plain Recover) = codes "recover" ∷ []
 words_of (Plain Dump) = codes "dump" ∷ []
 words_of (Plain Logs) = codes "logs" ∷ []
 

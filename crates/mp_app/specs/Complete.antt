@@ -3,15 +3,16 @@ use Rattle.std.specs.Prelude.{◌≡◌, ℕ, List, Option, Some, None, IsTrue, 
 use Rattle.mp_outside.specs.Faults.{Rose}
 use Rattle.mp_outside.specs.declared.disks.Disk.{Ghosts}
 use Rattle.mp_files.specs.declared.disks.Disks.{Disks}
-use Rattle.mp_files.specs.Nine.{LogRose, EachTells, seen_at}
+use Rattle.mp_files.specs.Nine.{LogRose, EachTells, AllTell, as_read, seen_at}
 use Rattle.mp_commands.specs.LogTexts.{fault_below}
+use Rattle.mp_recover.specs.Recovering.{HasNoFault, redone_by, IsSpent}
 use Rattle.mp_script.specs.declared.statements.Script.{Script}
 use Rattle.mp_script.specs.OneSession.{IsPlain}
 use Rattle.mp_script.specs.Spelling.{Spells}
 use Rattle.mp_store.specs.StoreFiles.{store_fault}
 use Rattle.mp_app.specs.declared.commands.Command.{Command}
 use Rattle.mp_app.specs.declared.commands.Command.TheVariants.{Session, Plain}
-use Rattle.mp_app.specs.declared.commands.PlainCommand.TheVariants.{Init, Dump, Logs}
+use Rattle.mp_app.specs.declared.commands.PlainCommand.TheVariants.{Init, Recover, Dump, Logs}
 use Rattle.mp_app.specs.declared.commands.SessionCommand.TheVariants.{Step}
 use Rattle.mp_app.specs.Calls.{SourceUse}
 
@@ -31,10 +32,18 @@ module _ {D : Type 0} (g : Ghosts D) where
     pub no_store : ¬ Rose (g.faults old.store) (g.faults new.store)
     pub no_log : (primary : ℕ) → ¬ LogRose g primary old new
 
+  -- nine disks that tell, without a fault, whose mtrs can be redone, and with a generation left where one is needed
+  pub record MayRecover (disks : Disks D) : Type 0 where
+    pub told : AllTell g disks
+    pub no_fault : HasNoFault (as_read g disks)
+    pub redone : (redone_by (as_read g disks)).1 ≡ None
+    pub not_spent : IsSpent (as_read g disks) → ⊥
+
   -- what a command reads is of its grammar; `init` reads nothing
   abbrev pub IsInOrder : Command → SourceUse → Disks D → Type 0
   IsInOrder (Session Step) source disks = HasScript source.left
   IsInOrder (Plain Init) source disks = Unit {0}
+  IsInOrder (Plain Recover) source disks = MayRecover disks
   IsInOrder (Plain Dump) source disks = IsTrue (g.tells disks.store) × (store_fault (g.seen disks.store) ≡ None)
   IsInOrder (Plain Logs) source disks = EachTells g disks.logs.items
       × (fault_below (seen_at g disks.logs.items) (length disks.logs.items) ≡ None)

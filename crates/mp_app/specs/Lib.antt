@@ -1,4 +1,5 @@
 pub mod Texts
+pub mod Recoveries
 pub mod Commands
 pub mod Codes
 pub mod Calls

@@ -9,7 +9,7 @@ use Rattle.mp_outside.specs.Faults.{Rose}
 use Rattle.mp_outside.specs.Sinks.{AppendsFront}
 use Rattle.mp_outside.specs.declared.disks.Disk.{Ghosts}
 use Rattle.mp_files.specs.declared.disks.Disks.{Disks}
-use Rattle.mp_files.specs.Nine.{EachTells, seen_at}
+use Rattle.mp_files.specs.Nine.{EachTells, AllTell, Every, as_read, seen_at, KeptNine, DiskRose, LogRose}
 use Rattle.mp_report.specs.Transcripts.{transcript_text}
 use Rattle.mp_report.specs.Readable.{IsReadable}
 use Rattle.mp_script.specs.declared.statements.Script.{Script}
@@ -23,14 +23,21 @@ use Rattle.mp_commands.specs.Dumps.{dump_text}
 use Rattle.mp_commands.specs.Fresh.{Made, Explains}
 use Rattle.mp_commands.specs.LogTexts.{LogFault, logs_text, fault_below, IsFirstFault, IsFirstFailed}
 use Rattle.mp_commands.specs.declared.faults.DiskFault.{DiskFault}
+use Rattle.mp_commands.specs.declared.faults.DiskFault.TheVariants as faults
+use Rattle.mp_recover.specs.declared.recovering.Recovered.{Recovered}
+use Rattle.mp_recover.specs.declared.refusals.RecoverRefusal.{RecoverRefusal}
+use Rattle.mp_recover.specs.declared.refusals.RecoverRefusal.TheVariants as recover
+use Rattle.mp_recover.specs.Images.{SoundImage, rows_of_image}
+use Rattle.mp_recover.specs.Recovering.{AnswersFor, RefusesBy, IsRecovered}
 use Rattle.mp_store.specs.StoreFiles.{store_fault}
 use Rattle.mp_app.specs.declared.commands.Command.{Command}
 use Rattle.mp_app.specs.declared.commands.Command.TheVariants.{Session, Plain}
-use Rattle.mp_app.specs.declared.commands.PlainCommand.TheVariants.{Init, Dump, Logs}
+use Rattle.mp_app.specs.declared.commands.PlainCommand.TheVariants.{Init, Recover, Dump, Logs}
 use Rattle.mp_app.specs.declared.commands.SessionCommand.TheVariants.{Step}
 use Rattle.mp_app.specs.Calls.{SourceUse, ReadToItsEnd, ReadUpToTheBound, IsFreshOpening}
 use Rattle.mp_app.specs.Commands.{Names, NoCommand}
-use Rattle.mp_app.specs.Texts.{usage_text, not_built_text, script_fault_text, source_fault_text, store_refused_text, store_failed_text, log_failed_text, log_refused_text, disk_failed_text, ready_text, no_memory_text}
+use Rattle.mp_app.specs.Recoveries.{recovered_text}
+use Rattle.mp_app.specs.Texts.{usage_text, not_built_text, script_fault_text, source_fault_text, store_refused_text, store_failed_text, log_failed_text, log_refused_text, disk_failed_text, recovery_refused_text, ready_text, no_memory_text}
 
 -- the text is that of a readable transcript of a mode, legal for the script over a fresh store, with no primary down
 pub record PrintsLegal (in_mode : Mode) (script : Script) (text : List ℕ) : Type 0 where
@@ -72,6 +79,13 @@ pub record RefusesItsScript (source : SourceUse) (text : List ℕ) : Type 0 wher
   pub read : ReadUpToTheBound source.left bytes
   pub refused : HasFault bytes text ⊎ IsNotBuilt bytes text
 
+-- a refusal of recovery for what the disks hold, and not for a disk that failed or for want of memory
+abbrev pub IsOfContent : RecoverRefusal → Type 0
+IsOfContent recover.StoreDisk = ⊥
+IsOfContent (recover.LogDisk primary) = ⊥
+IsOfContent recover.Memory = ⊥
+IsOfContent refusal = Unit {0}
+
 -- when `step` ends with a status, and its text; with no other status it ends
 abbrev pub StepSays : SourceUse → Status → List ℕ → Type 0
 StepSays source Done text = AnswersItsScript source text
@@ -112,6 +126,47 @@ module _ {D : Type 0} (g : Ghosts D) where
   InitSays old new Memory text = text ≡ no_memory_text
   InitSays old new _ text = ⊥
 
+  -- disks that were sound are recovered, whatever a crash now leaves of them; of disks that don't tell their bytes
+  -- nothing is said
+  abbrev pub Recovers : Disks D → Disks D → Type 0
+  Recovers old new = AllTell g old → SoundImage (as_read g old) → Every g new (IsRecovered (as_read g old))
+
+  -- the text is that of a recovery: its counts are those of what the disks held, and where they were sound, its rows are
+  -- the stored ones with the kept commits folded in
+  pub record ShowsRecovered (old new : Disks D) (text : List ℕ) : Type 0 where
+    pub made : Recovered
+    pub answers : AllTell g old → AnswersFor (as_read g old) made
+    pub rows : AllTell g old → SoundImage (as_read g old) → made.rows.items ≡ rows_of_image (as_read g old)
+    pub recovers : Recovers old new
+    pub printed : text ≡ recovered_text made
+
+  -- what the disks hold is refused for what is printed, which comes first, and they are left as they were
+  pub record RefusesContent (old new : Disks D) (text : List ℕ) : Type 0 where
+    pub refusal : RecoverRefusal
+    pub content : IsOfContent refusal
+    pub first : AllTell g old → RefusesBy (as_read g old) refusal
+    pub kept : KeptNine g old new
+    pub printed : text ≡ recovery_refused_text refusal
+
+  -- the count of faults of a disk rose
+  abbrev pub FaultsRose : DiskFault → Disks D → Disks D → Type 0
+  FaultsRose faults.Store old new = DiskRose g old.store new.store
+  FaultsRose (faults.Log primary) old new = LogRose g primary old new
+
+  -- a disk failed, whatever was written before, and it is the one that is printed
+  pub record NamesFailed (old new : Disks D) (text : List ℕ) : Type 0 where
+    pub fault : DiskFault
+    pub rose : FaultsRose fault old new
+    pub printed : text ≡ disk_failed_text fault
+
+  -- when `recover` ends with a status, and its text
+  abbrev pub RecoverSays : Disks D → Disks D → Status → List ℕ → Type 0
+  RecoverSays old new Done text = ShowsRecovered old new text
+  RecoverSays old new Store text = RefusesContent old new text
+  RecoverSays old new Disk text = NamesFailed old new text
+  RecoverSays old new Memory text = text ≡ no_memory_text
+  RecoverSays old new _ text = ⊥
+
   -- the text is that of the logs, which are of the grammar; of logs that don't tell their bytes nothing is said
   abbrev pub ShowsLogs : List D → List ℕ → Type 0
   ShowsLogs logs text = EachTells g logs
@@ -141,6 +196,7 @@ module _ {D : Type 0} (g : Ghosts D) where
   abbrev pub CommandSays : Command → SourceUse → Disks D → Disks D → Status → List ℕ → Type 0
   CommandSays (Session Step) source old new = StepSays source
   CommandSays (Plain Init) source old new = InitSays old new
+  CommandSays (Plain Recover) source old new = RecoverSays old new
   CommandSays (Plain Dump) source old new = DumpSays old.store new.store
   CommandSays (Plain Logs) source old new = LogsSays old.logs.items new.logs.items
 

@@ -4,14 +4,18 @@ use Rattle.mp_script.specs.Faults.{FaultAt}
 use Rattle.mp_commands.specs.declared.faults.DiskFault.{DiskFault}
 use Rattle.mp_commands.specs.declared.refusals.LogsRefusal.{LogsRefusal}
 use Rattle.mp_commands.specs.declared.refusals.LogsRefusal.TheVariants.{Log, LogDisk, Memory as NoLogsMemory}
+use Rattle.mp_recover.specs.declared.recovering.Recovered.{Recovered}
+use Rattle.mp_recover.specs.declared.refusals.RecoverRefusal.{RecoverRefusal}
+use Rattle.mp_recover.specs.declared.refusals.RecoverRefusal.TheVariants as recover
 use Rattle.mp_store.specs.declared.refusals.StoreRefusal.{StoreRefusal}
 use Rattle.mp_store.specs.declared.refusals.StoreRefusal.TheVariants.{NotStore, Disk as DiskRefused, Memory as MemoryRefused}
 use Rattle.mp_app.specs.declared.commands.WordsRefusal.{WordsRefusal}
 use Rattle.mp_app.specs.declared.commands.WordsRefusal.TheVariants.{Usage as NotRead, Memory as NoMemory}
 use Rattle.mp_app.specs.declared.output.Output.{Output}
 use Rattle.mp_app.specs.declared.status.Status.{Status}
-use Rattle.mp_app.specs.declared.status.Status.TheVariants.{Usage, Script, Store, Disk, Memory}
-use Rattle.mp_app.specs.Texts.{usage_text, script_fault_text, store_refused_text, store_failed_text, log_failed_text, log_refused_text, disk_failed_text, no_memory_text}
+use Rattle.mp_app.specs.declared.status.Status.TheVariants.{Done, Usage, Script, Store, Disk, Memory}
+use Rattle.mp_app.specs.Recoveries.{recovered_text}
+use Rattle.mp_app.specs.Texts.{usage_text, script_fault_text, store_refused_text, store_failed_text, log_failed_text, log_refused_text, disk_failed_text, recovery_refused_text, no_memory_text}
 use Rattle.mp_app.specs.declared.output.Printed.{Printed as PrintedText}
 use Rattle.mp_app.specs.declared.output.Printed.TheVariants.{Fixed, Made}
 
@@ -51,6 +55,17 @@ abbrev pub PrintsLogsRefusal : LogsRefusal → Output → Type 0
 PrintsLogsRefusal (Log primary place) = PrintsOrNoMemory Store (log_refused_text primary place)
 PrintsLogsRefusal (LogDisk primary) = PrintsLogFailed primary
 PrintsLogsRefusal NoLogsMemory = Prints Memory no_memory_text
+
+-- what a refusal of recovery is printed as
+abbrev pub PrintsRecoverRefusal : RecoverRefusal → Output → Type 0
+PrintsRecoverRefusal recover.StoreDisk = Prints Disk store_failed_text
+PrintsRecoverRefusal (recover.LogDisk primary) = PrintsLogFailed primary
+PrintsRecoverRefusal recover.Memory = Prints Memory no_memory_text
+PrintsRecoverRefusal refusal = PrintsOrNoMemory Store (recovery_refused_text refusal)
+
+-- what a recovery made is printed as
+abbrev pub PrintsRecovered : Recovered → Output → Type 0
+PrintsRecovered made = PrintsOrNoMemory Done (recovered_text made)
 
 -- what words that weren't read are answered
 abbrev pub PrintsWordsRefusal : WordsRefusal → Output → Type 0

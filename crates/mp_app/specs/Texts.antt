@@ -2,6 +2,8 @@
 use Rattle.std.specs.Prelude.{ℕ, List, [], ◌∷◌, ◌++◌, codes, decimal}
 use Rattle.mp_commands.specs.declared.faults.DiskFault.{DiskFault}
 use Rattle.mp_commands.specs.declared.faults.DiskFault.TheVariants.{Store as StoreFailed, Log as LogFailed}
+use Rattle.mp_recover.specs.declared.refusals.RecoverRefusal.{RecoverRefusal}
+use Rattle.mp_recover.specs.declared.refusals.RecoverRefusal.TheVariants as recover
 use Rattle.mp_script.specs.Faults.{FaultAt}
 
 abbrev pub usage_text : List ℕ
@@ -32,8 +34,31 @@ disk_failed_text (LogFailed primary) = log_failed_text primary
 abbrev pub log_refused_text : ℕ → ℕ → List ℕ
 log_refused_text primary place = codes "refused log " ++ decimal primary ++ codes " place " ++ decimal place ++ 10 ∷ []
 
+-- the next record of a page was made on another LLSN than the page has
+abbrev pub gap_text : ℕ → ℕ → ℕ → List ℕ
+gap_text page wanted found = codes "refused gap page " ++ decimal page ++ codes " wanted " ++ decimal wanted ++ codes " found " ++ decimal found ++ 10 ∷ []
+
+-- the change of the next record of a page, of an mtr with this LLSN, doesn't fit the page
+abbrev pub unfit_change_text : ℕ → ℕ → List ℕ
+unfit_change_text page llsn = codes "refused change page " ++ decimal page ++ codes " llsn " ++ decimal llsn ++ 10 ∷ []
+
+-- the store is of the last generation
+abbrev pub spent_generations_text : ℕ → List ℕ
+spent_generations_text base = codes "refused spent generations base " ++ decimal base ++ codes " add 1\n"
+
 abbrev pub ready_text : List ℕ
 ready_text = codes "ready\n"
 
 abbrev pub no_memory_text : List ℕ
 no_memory_text = codes "no memory\n"
+
+-- what a refusal of recovery is printed as
+abbrev pub recovery_refused_text : RecoverRefusal → List ℕ
+recovery_refused_text (recover.Store place) = store_refused_text place
+recovery_refused_text recover.StoreDisk = store_failed_text
+recovery_refused_text (recover.Log primary place) = log_refused_text primary place
+recovery_refused_text (recover.LogDisk primary) = log_failed_text primary
+recovery_refused_text (recover.Gap page wanted found) = gap_text page wanted found
+recovery_refused_text (recover.NotApplicable page llsn) = unfit_change_text page llsn
+recovery_refused_text (recover.Spent base) = spent_generations_text base
+recovery_refused_text recover.Memory = no_memory_text

@@ -12,6 +12,8 @@ pub enum SessionCommand {
 pub enum PlainCommand {
     /// `init`: makes a fresh store and eight logs without batches.
     Init,
+    /// `recover`: makes the disks clean after a crash, and prints the rows of the commits that it kept.
+    Recover,
     /// `dump`: prints the stored pages.
     Dump,
     /// `logs`: prints the mtrs of the logs.

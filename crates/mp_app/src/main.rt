@@ -1,14 +1,16 @@
 //! The program `mp`: several primaries over one page store. So far it runs scripts of one session, makes a store
-//! with its logs, and prints the store's pages and the logs' mtrs.
+//! with its logs, recovers them after a crash, and prints the store's pages and the logs' mtrs.
 #![tactic(auto)]
 
 ghost use Rattle.std.specs.Prelude.{◌≢◌, IfErr};
 
 mod command_line;
 mod commands;
+mod examples;
 mod opening;
 mod output;
 mod plain;
+mod recoveries;
 mod session;
 mod status;
 #[cfg(test)]
@@ -17,6 +19,7 @@ mod top;
 mod words;
 
 pub use commands::{Command, PlainCommand, SessionCommand, WordsRefusal};
+pub use examples::law_recovered_text;
 use mp_outside::{StdSink, StdSource};
 use opening::open_disks;
 use output::{Output, print};

@@ -4,14 +4,16 @@ ghost use Rattle.std.specs.Prelude.{◌≡◌, ◌≢◌, IfOk, MatchResult};
 ghost use Rattle.std.specs.Io.KnownBytes.{Appends};
 ghost use Rattle.mp_outside.specs.Faults.{Rose};
 ghost use Rattle.mp_outside.specs.Sinks.{AppendsFront};
-ghost use Rattle.mp_app.specs.Printed.{text_of, Prints, PrintsFault, PrintsStoreRefusal, PrintsLogFailed, PrintsDiskFault, PrintsLogsRefusal, PrintsWordsRefusal};
-ghost use Rattle.mp_app.specs.Texts.{usage_text, not_built_text, script_fault_text, source_fault_text, store_refused_text, store_failed_text, log_failed_text, log_refused_text, ready_text, no_memory_text};
+ghost use Rattle.mp_app.specs.Printed.{text_of, Prints, PrintsFault, PrintsStoreRefusal, PrintsLogFailed, PrintsDiskFault, PrintsLogsRefusal, PrintsRecoverRefusal, PrintsRecovered, PrintsWordsRefusal};
+ghost use Rattle.mp_app.specs.Texts.{usage_text, not_built_text, script_fault_text, source_fault_text, store_refused_text, store_failed_text, log_failed_text, log_refused_text, gap_text, unfit_change_text, spent_generations_text, ready_text, no_memory_text};
 
 use crate::commands::WordsRefusal;
+use crate::recoveries::print_recovered;
 use crate::status::Status;
 use mp_commands::{DiskFault, LogsRefusal};
-use mp_model::Text;
+use mp_model::{Memory, Text};
 use mp_outside::{Sink, write_all};
+use mp_recover::{RecoverRefusal, Recovered};
 use mp_store::StoreRefusal;
 use std::alloc::{AllocError, Global};
 
@@ -123,6 +125,42 @@ impl Output {
         }
     }
 
+    /// Recovery is refused.
+    pub fn recover_refusal(alloc: Global, refusal: RecoverRefusal) -> Output
+        ensures { PrintsRecoverRefusal refusal result }
+    {
+        match refusal {
+            RecoverRefusal::Store { place } => {
+                Output::made(Status::Store, place_text(alloc, place))
+            }
+            RecoverRefusal::StoreDisk => Output::store_failed(),
+            RecoverRefusal::Log { primary, place } => {
+                Output::made(Status::Store, log_place_text(alloc, primary, place))
+            }
+            RecoverRefusal::LogDisk { primary } => Output::log_failed(alloc, primary),
+            RecoverRefusal::Gap {
+                page,
+                wanted,
+                found,
+            } => Output::made(Status::Store, gap_text(alloc, page, wanted, found)),
+            RecoverRefusal::NotApplicable { page, llsn } => {
+                Output::made(Status::Store, change_text(alloc, page, llsn))
+            }
+            RecoverRefusal::Spent { base } => Output::made(Status::Store, spent_text(alloc, base)),
+            RecoverRefusal::Memory => Output::no_memory(),
+        }
+    }
+
+    /// What a recovery made.
+    pub fn recovered(alloc: Global, made: &Recovered) -> Output
+        ensures { PrintsRecovered made.now result }
+    {
+        match print_recovered(alloc, made) {
+            Ok(text) => Output::done(text),
+            Err(Memory) => Output::no_memory(),
+        }
+    }
+
     /// The disks were made anew.
     pub fn ready() -> Output
         ensures { Prints Status.Done ready_text result }
@@ -220,5 +258,26 @@ fn log_place_text(alloc: Global, primary: u8, place: u64) -> Result<Text, AllocE
     ensures { IfOk result (λ text. text.items ≡ log_refused_text primary place) }
 {
     let text = format!(in alloc; "refused log {primary} place {place}\n")?;
+    Ok(Text::from_vec(text.into_bytes()))
+}
+
+fn gap_text(alloc: Global, page: u16, wanted: u64, found: u64) -> Result<Text, AllocError>
+    ensures { IfOk result (λ text. text.items ≡ gap_text page wanted found) }
+{
+    let text = format!(in alloc; "refused gap page {page} wanted {wanted} found {found}\n")?;
+    Ok(Text::from_vec(text.into_bytes()))
+}
+
+fn change_text(alloc: Global, page: u16, llsn: u64) -> Result<Text, AllocError>
+    ensures { IfOk result (λ text. text.items ≡ unfit_change_text page llsn) }
+{
+    let text = format!(in alloc; "refused change page {page} llsn {llsn}\n")?;
+    Ok(Text::from_vec(text.into_bytes()))
+}
+
+fn spent_text(alloc: Global, base: u64) -> Result<Text, AllocError>
+    ensures { IfOk result (λ text. text.items ≡ spent_generations_text base) }
+{
+    let text = format!(in alloc; "refused spent generations base {base} add 1\n")?;
     Ok(Text::from_vec(text.into_bytes()))
 }

@@ -6,7 +6,7 @@ ghost use Rattle.mp_files.specs.Nine.{KeptDisk, KeptLogs, KeptNine, StillNine};
 ghost use Rattle.mp_commands.specs.Fresh.{Made};
 ghost use Rattle.mp_app.specs.declared.commands.Command.TheVariants.{Plain};
 ghost use Rattle.mp_app.specs.Calls.{SourceUse, read_of};
-ghost use Rattle.mp_app.specs.Outcomes.{CommandSays, InitSays, DumpSays, LogsSays, Writes, WritesFront};
+ghost use Rattle.mp_app.specs.Outcomes.{CommandSays, InitSays, RecoverSays, Recovers, DumpSays, LogsSays, Writes, WritesFront};
 ghost use Rattle.mp_app.specs.Printed.{text_of};
 
 use crate::commands::PlainCommand;
@@ -15,6 +15,7 @@ use crate::status::Status;
 use mp_commands::{dump, init, print_logs};
 use mp_files::Disks;
 use mp_outside::{Disk, Sink, Source};
+use mp_recover::recover;
 use std::alloc::Global;
 
 /// Does a command that runs no session, as `top` does. There are eight logs. No source is read.
@@ -35,9 +36,13 @@ pub fn plain_call<S: Source, K: Sink, D: Disk>(
     ensures sink_failed { result ≡ Status.Sink → Rose (K.faults sink.old) (K.faults sink.new) }
     ensures unread { source.new ≡ source.old }
     ensures nine { StillNine D.Disk disks.old disks.new }
-    // `init` alone changes disks: where it ends with status 0, they are a fresh store and logs without batches.
+    // Where `init` ends with status 0, the disks are a fresh store and logs without batches.
     ensures ready { result ≡ Status.Done → command.now ≡ PlainCommand.Init → Made D.Disk disks.old disks.new }
-    ensures untouched { command.now ≢ PlainCommand.Init → KeptNine D.Disk disks.old disks.new }
+    // Where `recover` does, over sound disks, each image is recovered.
+    ensures recovered { result ≡ Status.Done → command.now ≡ PlainCommand.Recover → Recovers D.Disk disks.old disks.new }
+    // What refuses the content of disks leaves them, and so does every command but these two.
+    ensures refused { result ≡ Status.Store → KeptNine D.Disk disks.old disks.new }
+    ensures untouched { command.now ≢ PlainCommand.Init → command.now ≢ PlainCommand.Recover → KeptNine D.Disk disks.old disks.new }
 {
     let output = answer(alloc, command, disks);
     print(&output, sink)
@@ -48,10 +53,11 @@ fn answer<D: Disk>(alloc: Global, command: &PlainCommand, disks: &mut Disks<D>) 
     requires eight { length disks.old.logs.items ≡ 8 }
     ensures says { (source : SourceUse) → CommandSays D.Disk (Plain command.now) source disks.old disks.new result.status (text_of result.printed) }
     ensures nine { StillNine D.Disk disks.old disks.new }
-    ensures untouched { command.now ≢ PlainCommand.Init → KeptNine D.Disk disks.old disks.new }
+    ensures untouched { command.now ≢ PlainCommand.Init → command.now ≢ PlainCommand.Recover → KeptNine D.Disk disks.old disks.new }
 {
     match command {
         PlainCommand::Init => answer_init(alloc, disks),
+        PlainCommand::Recover => answer_recover(alloc, disks),
         PlainCommand::Dump => answer_dump(alloc, &mut disks.store),
         PlainCommand::Logs => answer_logs(alloc, &mut disks.logs),
     }
@@ -66,6 +72,18 @@ fn answer_init<D: Disk>(alloc: Global, disks: &mut Disks<D>) -> Output
     match init(disks) {
         Ok(()) => Output::ready(),
         Err(fault) => Output::disk_fault(alloc, fault),
+    }
+}
+
+// What recovering the disks comes to.
+fn answer_recover<D: Disk>(alloc: Global, disks: &mut Disks<D>) -> Output
+    requires eight { length disks.old.logs.items ≡ 8 }
+    ensures says { RecoverSays D.Disk disks.old disks.new result.status (text_of result.printed) }
+    ensures nine { StillNine D.Disk disks.old disks.new }
+{
+    match recover(alloc, disks) {
+        Ok(made) => Output::recovered(alloc, &made),
+        Err(refusal) => Output::recover_refusal(alloc, refusal),
     }
 }
 

@@ -12,7 +12,7 @@ ghost use Rattle.mp_app.specs.declared.commands.Command.TheVariants.{Session, Pl
 ghost use Rattle.mp_app.specs.Commands.{Names};
 ghost use Rattle.mp_app.specs.Calls.{read_of};
 ghost use Rattle.mp_app.specs.Complete.{NothingRose, IsInOrder};
-ghost use Rattle.mp_app.specs.Outcomes.{Says, Writes, WritesFront};
+ghost use Rattle.mp_app.specs.Outcomes.{Says, Recovers, Writes, WritesFront};
 
 use crate::commands::{Command, PlainCommand, SessionCommand};
 use crate::output::{Output, print};
@@ -26,11 +26,13 @@ use std::alloc::Global;
 
 /// Does what the words after the program's name ask for. `step` reads a script from the source to its end, answers it
 /// over a fresh store, and prints the transcript. `init` makes the disks a fresh store and eight logs without batches,
-/// and prints `ready`. `dump` prints the pages of the store, `logs` the mtrs of the logs.
+/// and prints `ready`. `recover` makes the disks clean after a crash, and prints the rows that are left. `dump` prints the
+/// pages of the store, `logs` the mtrs of the logs.
 ///
-/// There are eight logs, before and after. Only `step` reads the source, at most 1,048,577 bytes of it, and only `init`
-/// changes disks; where it ends with another status than 0, nothing is promised of their content but that they can be
-/// initialised again. The text is made whole before its first byte is written, and it is written once.
+/// There are eight logs, before and after. Only `step` reads the source, at most 1,048,577 bytes of it, and only `init` and
+/// `recover` change disks. Where `init` ends with another status than 0, nothing is promised of their content but that
+/// they can be initialised again; where `recover` ends with 3, they are as they were. The text is made whole before its
+/// first byte is written, and it is written once.
 ///
 /// `docs/language.md` says what each status means and which text goes with it.
 pub fn top<S: Source, K: Sink, D: Disk>(
@@ -59,9 +61,15 @@ pub fn top<S: Source, K: Sink, D: Disk>(
     ensures unread { ¬ Names (map string_bytes words.now) (Session SessionCommand.Step) → source.new ≡ source.old }
     // All nine disks stand and tell what they told, and no count of faults fell.
     ensures nine { StillNine D.Disk disks.old disks.new }
-    // `init` alone changes disks: where it ends with status 0, they are a fresh store and logs without batches.
+    // Where `init` ends with status 0, the disks are a fresh store and logs without batches.
     ensures ready { result ≡ Status.Done → Names (map string_bytes words.now) (Plain PlainCommand.Init) → Made D.Disk disks.old disks.new }
-    ensures untouched { ¬ Names (map string_bytes words.now) (Plain PlainCommand.Init) → KeptNine D.Disk disks.old disks.new }
+    // Where `recover` does, over sound disks, each image is clean and has the kept commits.
+    ensures recovered { result ≡ Status.Done → Names (map string_bytes words.now) (Plain PlainCommand.Recover)
+        → Recovers D.Disk disks.old disks.new }
+    // What refuses the content of disks leaves them, and so does every command but these two.
+    ensures refused { result ≡ Status.Store → KeptNine D.Disk disks.old disks.new }
+    ensures untouched { ¬ Names (map string_bytes words.now) (Plain PlainCommand.Init)
+        → ¬ Names (map string_bytes words.now) (Plain PlainCommand.Recover) → KeptNine D.Disk disks.old disks.new }
 {
     call(alloc, words, source, sink, disks)
 }
@@ -86,7 +94,11 @@ fn call<S: Source, K: Sink, D: Disk>(
     ensures unread { ¬ Names (map string_bytes words.now) (Session SessionCommand.Step) → source.new ≡ source.old }
     ensures nine { StillNine D.Disk disks.old disks.new }
     ensures ready { result ≡ Status.Done → Names (map string_bytes words.now) (Plain PlainCommand.Init) → Made D.Disk disks.old disks.new }
-    ensures untouched { ¬ Names (map string_bytes words.now) (Plain PlainCommand.Init) → KeptNine D.Disk disks.old disks.new }
+    ensures recovered { result ≡ Status.Done → Names (map string_bytes words.now) (Plain PlainCommand.Recover)
+        → Recovers D.Disk disks.old disks.new }
+    ensures refused { result ≡ Status.Store → KeptNine D.Disk disks.old disks.new }
+    ensures untouched { ¬ Names (map string_bytes words.now) (Plain PlainCommand.Init)
+        → ¬ Names (map string_bytes words.now) (Plain PlainCommand.Recover) → KeptNine D.Disk disks.old disks.new }
 {
     match read_words(alloc, words) {
         Ok(Command::Session(command)) => session_call(alloc, &command, source, sink, disks),

@@ -42,6 +42,8 @@ fn command_named(word: &str) -> Option<Command>
         Some(Command::Session(SessionCommand::Step))
     } else if is_word(word, "init") {
         Some(Command::Plain(PlainCommand::Init))
+    } else if is_word(word, "recover") {
+        Some(Command::Plain(PlainCommand::Recover))
     } else if is_word(word, "dump") {
         Some(Command::Plain(PlainCommand::Dump))
     } else if is_word(word, "logs") {

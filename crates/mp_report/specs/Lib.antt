@@ -11,3 +11,4 @@ pub mod Drafts
 pub mod Refusals
 pub mod Pages
 pub mod Records
+pub mod Rows

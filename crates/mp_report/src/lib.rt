@@ -5,9 +5,7 @@
 mod laws;
 mod print;
 mod read;
-#[cfg(test)]
-mod tests;
 
 pub use laws::{law_legal_readable, law_texts_differ};
-pub use print::{print_page, print_record, print_transcript};
+pub use print::{print_page, print_record, print_rows, print_transcript};
 pub use read::{ReadRefusal, read_transcript};

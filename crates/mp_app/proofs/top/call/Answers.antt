@@ -4,7 +4,7 @@ use Rattle.mp_files.specs.Nine.{KeptNine, StillNine}
 use Rattle.mp_files.proofs.Nines.{KeptNine-refl, StillNine-refl}
 use Rattle.mp_app.specs.declared.commands.Command.TheVariants.{Session, Plain}
 use Rattle.mp_app.specs.declared.commands.PlainCommand.{PlainCommand}
-use Rattle.mp_app.specs.declared.commands.PlainCommand.TheVariants.{Init}
+use Rattle.mp_app.specs.declared.commands.PlainCommand.TheVariants.{Init, Recover}
 use Rattle.mp_app.specs.Commands.{Names}
 use Rattle.mp_app.specs.Calls.{read_of}
 use Rattle.mp_app.specs.Printed.{text_of}
@@ -43,10 +43,10 @@ pub returns-in-Err-clause-nine : goal.returns-in-Err-clause-nine
 returns-in-Err-clause-nine g c = StillNine-refl g.D.Disk c.args.disks.now
 
 pub returns-in-Ok-Session-clause-untouched : goal.returns-in-Ok-Session-clause-untouched
-returns-in-Ok-Session-clause-untouched g c = λ not_init. subst (λ disks. KeptNine g.D.Disk c.args.disks.now disks) (sym c.session_call.ensures.untouched) (KeptNine-refl g.D.Disk c.args.disks.now)
+returns-in-Ok-Session-clause-untouched g c = λ not_init not_recover. subst (λ disks. KeptNine g.D.Disk c.args.disks.now disks) (sym c.session_call.ensures.untouched) (KeptNine-refl g.D.Disk c.args.disks.now)
 
 pub returns-in-Err-clause-untouched : goal.returns-in-Err-clause-untouched
-returns-in-Err-clause-untouched g c = λ not_init. KeptNine-refl g.D.Disk c.args.disks.now
+returns-in-Err-clause-untouched g c = λ not_init not_recover. KeptNine-refl g.D.Disk c.args.disks.now
 
 pub returns-in-Ok-Session-clause-ready : goal.returns-in-Ok-Session-clause-ready
 returns-in-Ok-Session-clause-ready g c = λ done init. session_not_plain (map string_bytes c.args.words.now) c.in-Ok-Session.command Init (rw c.in-Ok-Session.field-0-is at c.in-Ok-Session.ensures) init
@@ -56,10 +56,28 @@ returns-in-Ok-Plain-clause-ready g c = λ done init.
     c.plain_call.ensures.ready done (plain_once (map string_bytes c.args.words.now) c.in-Ok-Plain.command Init (rw c.in-Ok-Plain.field-0-is at c.in-Ok-Plain.ensures) init)
 
 pub returns-in-Ok-Plain-clause-untouched : goal.returns-in-Ok-Plain-clause-untouched
-returns-in-Ok-Plain-clause-untouched g c = λ not_init.
+returns-in-Ok-Plain-clause-untouched g c = λ not_init not_recover.
     let named = rw c.in-Ok-Plain.field-0-is at c.in-Ok-Plain.ensures in
     c.plain_call.ensures.untouched (λ is. not_init (subst (λ (k : PlainCommand). Names (map string_bytes c.args.words.now) (Plain k)) is named))
+    (λ is. not_recover (subst (λ (k : PlainCommand). Names (map string_bytes c.args.words.now) (Plain k)) is named))
 
 pub returns-in-Err-clause-ready : goal.returns-in-Err-clause-ready
 returns-in-Err-clause-ready g c = λ done init.
     refusal_not_done c.in-Err.refusal c.words_refusal.result c.words_refusal.ensures (sym (c.print.ensures.written (done_no_sink c.print.result done)).0 ∙ done)
+
+pub returns-in-Ok-Session-clause-recovered : goal.returns-in-Ok-Session-clause-recovered
+returns-in-Ok-Session-clause-recovered g c = λ done recover. session_not_plain (map string_bytes c.args.words.now) c.in-Ok-Session.command Recover (rw c.in-Ok-Session.field-0-is at c.in-Ok-Session.ensures) recover
+
+pub returns-in-Ok-Plain-clause-recovered : goal.returns-in-Ok-Plain-clause-recovered
+returns-in-Ok-Plain-clause-recovered g c = λ done recover.
+    c.plain_call.ensures.recovered done (plain_once (map string_bytes c.args.words.now) c.in-Ok-Plain.command Recover (rw c.in-Ok-Plain.field-0-is at c.in-Ok-Plain.ensures) recover)
+
+pub returns-in-Err-clause-recovered : goal.returns-in-Err-clause-recovered
+returns-in-Err-clause-recovered g c = λ done recover.
+    refusal_not_done c.in-Err.refusal c.words_refusal.result c.words_refusal.ensures (sym (c.print.ensures.written (done_no_sink c.print.result done)).0 ∙ done)
+
+pub returns-in-Ok-Session-clause-refused : goal.returns-in-Ok-Session-clause-refused
+returns-in-Ok-Session-clause-refused g c = λ refused. subst (λ disks. KeptNine g.D.Disk c.args.disks.now disks) (sym c.session_call.ensures.untouched) (KeptNine-refl g.D.Disk c.args.disks.now)
+
+pub returns-in-Err-clause-refused : goal.returns-in-Err-clause-refused
+returns-in-Err-clause-refused g c = λ refused. KeptNine-refl g.D.Disk c.args.disks.now
