@@ -37,6 +37,7 @@ impl Book {
         requires orderly { IsOrderly script.now.lines.items }
         ensures book { IfOk result (IsBook script.now.lines.items script.now.sessions.items primary) }
         ensures none { IfOk result (λ book. book.answers.items ≡ []) }
+        ensures starts { IfOk result (λ book. (number : ℕ) (s : Session) → slice_get book.sessions.items number ≡ Some s → StartsAs number (own_lines script.now.lines.items script.now.sessions.items primary number) s) }
     {
         let mut sessions = Vec::new(alloc);
         for number in 0..65u8 {

@@ -27,3 +27,6 @@ returns-clause-book c =
     let least = c.loop-number-test.false in
     let most = c.loop-number.auto.number-end in
     begins_book c.args.script.now.lines.items c.args.script.now.sessions.items c.args.primary c.loop-number.number _ c.requires.orderly c.new.ensures c.loop-number.invariant (omega (arith, least, most))
+
+pub returns-clause-starts : goal.returns-clause-starts
+returns-clause-starts c = c.loop-number.invariant.each
