@@ -1,15 +1,17 @@
 -- What a store shows while pages are written for its next generation.
-use Rattle.std.proofs.Common.{◌≡◌, ◌≢◌, ◌⊎◌, ℕ, ◌+◌, ◌<◌, ◌≤◌, Bool, true, false, IsTrue, List, None, refl, sym, ap, subst, ◌∙◌, inl, inr, arith}
+use Rattle.std.proofs.Common.{◌≡◌, ◌⊎◌, ℕ, ◌+◌, ◌<◌, ◌≤◌, Bool, true, false, IsTrue, List, None, length, refl, sym, ap, subst, ◌∙◌, inl, inr, arith}
 use Rattle.std.specs.Prelude.{◌||◌, ◌&&◌, ◌==◌, not, nat_lt, nat_le, slice_index_or}
-use Rattle.std.proofs.lemmas.Bool.{cases_lt, cases_eq, lt-ltb, or_left, or_right}
+use Rattle.std.proofs.lemmas.Bool.{cases_Bool, lt-ltb, or_left, or_right}
+use Rattle.std.proofs.lemmas.List.{get_or_past}
 use Rattle.mp_cells.specs.PageView.{PageView}
 use Rattle.mp_cells.specs.Trees.{PageMap}
 use Rattle.mp_store.specs.declared.headers.Header.{Header}
 use Rattle.mp_store.specs.Layout.{is_open, page_side, other}
 use Rattle.mp_store.specs.OpenStores.{NoLater, LaterLeft}
 use Rattle.mp_store.specs.PageSides.{page_generation, page_llsn, idle}
-use Rattle.mp_store.specs.SideWrites.{PageLeft, HeaderLeft, yields, kept_side}
-use Rattle.mp_store.specs.StoreFiles.{header_in_force, page_in_force, page_side_in_force, homes_fault, roots_fault, is_map, is_root, store_fault}
+use Rattle.mp_store.specs.SideWrites.{HeaderLeft, yields, kept_side}
+use Rattle.mp_store.specs.Passes.{is_marked, WrittenBeside, AllWritten}
+use Rattle.mp_store.specs.StoreFiles.{header_in_force, page_in_force, page_side_in_force, roots_fault, is_map, is_root, store_fault}
 use Rattle.mp_store.proofs.LaterShown.{page_later, homes_later}
 use Rattle.mp_store.proofs.ShownAfter.{file_home, page_of_home}
 use Rattle.mp_store.proofs.SoundAfter.{sound_parts, parts_roots}
@@ -55,25 +57,15 @@ later_shows g old new is sound left = record {
   pages = λ n. left.pages (header_in_force old).generation n (omega (arith, is));
 }
 
--- ---- one page was written
+-- ---- pages were written
 
--- where a page was written for the next generation, the store shows the same
-pub page_shows : (header : Header) (number : ℕ) (page : PageView) (file seen c : List ℕ) → header.generation ≡ (header_in_force file).generation + 1 → ShowsSame file seen
-    → PageLeft (header_in_force file).generation number header.generation page seen c → store_fault c ≡ None → ShowsSame file c
-page_shows header number page file seen c next same left sound = record {
-  sound = sound;
-  header = left.header ∙ same.header;
-  pages = λ n. elim (cases_eq n number) [
-    | inl e ↦ subst (λ (m : ℕ). page_in_force (header_in_force file).generation m c ≡ page_in_force (header_in_force file).generation m file) (sym e) (here ∙ same.pages number)
-    | inr apart ↦ left.others (header_in_force file).generation n apart ∙ same.pages n
-  ];
+-- where pages were written for the next generation, the store shows the same
+pub beside_shows : (store : Header) (file c : List ℕ) → store ≡ header_in_force file → store_fault file ≡ None → WrittenBeside store.generation file c → ShowsSame file c
+beside_shows store file c is sound left = record {
+  sound = left.sound (sym (ap (λ (h : Header). h.generation) is)) sound;
+  header = left.header;
+  pages = λ n. subst (λ (h : Header). page_in_force h.generation n c ≡ page_in_force h.generation n file) is (left.pages n);
 }
-  where
-    here : page_in_force (header_in_force file).generation number c ≡ page_in_force (header_in_force file).generation number seen
-    here = elim left.page_is [
-      | inl e ↦ e
-      | inr new ↦ (let small : header.generation ≤ (header_in_force file).generation = new.0 in absurd (omega (arith, next, small)))
-    ]
 
 -- a side of a generation that isn't later is smaller than one of the next
 by_gate : (opened : Bool) (generation next llsn llsn' : ℕ) → (IsTrue opened → generation < next)
@@ -81,75 +73,41 @@ by_gate : (opened : Bool) (generation next llsn llsn' : ℕ) → (IsTrue opened 
 by_gate false generation next llsn llsn' early = refl
 by_gate true generation next llsn llsn' early = or_right (not (nat_le generation next)) _ (or_left (nat_lt generation next) _ (lt-ltb generation next (early refl)))
 
-pub side_yields : (g next llsn : ℕ) (side : List ℕ) → g < next → (IsTrue (is_open side) → page_generation side ≤ g) → IsTrue (yields next next llsn side)
+side_yields : (g next llsn : ℕ) (side : List ℕ) → g < next → (IsTrue (is_open side) → page_generation side ≤ g) → IsTrue (yields next next llsn side)
 side_yields g next llsn side lt early = by_gate (is_open side) (page_generation side) next llsn (page_llsn side) (λ opened. (let small : page_generation side ≤ g = early opened in omega (arith, lt, small)))
 
 -- a page whose sides are as they were is shown as it was
-pub sides_show : (g n : ℕ) (old new : List ℕ) → ((side : _) → page_side n side new ≡ page_side n side old) → page_in_force g n new ≡ page_in_force g n old
+sides_show : (g n : ℕ) (old new : List ℕ) → ((side : _) → page_side n side new ≡ page_side n side old) → page_in_force g n new ≡ page_in_force g n old
 sides_show g n old new same =
     file_home g n new ∙ ap (λ (x : List ℕ). page_of_home g x (page_side n (other (idle None)) new)) (same (idle None)) ∙ ap (λ (x : List ℕ). page_of_home g (page_side n (idle None) old) x) (same (other (idle None))) ∙ sym (file_home g n old)
 
--- the side that isn't written is of no later generation
-pub kept_yields : (header : Header) (marks : List Bool) (pages : PageMap) (file seen : List ℕ) (number llsn : ℕ) → number < 4096 → CanWrite header marks pages file
-    → SavedBelow number header pages file seen → IsTrue (yields header.generation header.generation llsn (kept_side (header_in_force file).generation number seen))
-kept_yields header marks pages file seen number llsn lt can so_far =
-    let g = (header_in_force file).generation in
-    let side = other (idle (page_side_in_force g number seen)) in
-    side_yields g header.generation llsn (page_side number side seen) (let n : header.generation ≡ g + 1 = can.may.next in omega (arith, n))
-    (subst (λ (s : List ℕ). IsTrue (is_open s) → page_generation s ≤ g) (sym (so_far.others number side (omega arith))) (can.none_later number side lt))
-
--- a page that isn't marked: the next generation shows the stored one
-pub unmarked_next : (header : Header) (marks : List Bool) (pages : PageMap) (file seen : List ℕ) (number : ℕ) → number < 4096 → CanWrite header marks pages file
-    → slice_index_or marks number false ≡ false → SavedBelow number header pages file seen → SavedBelow (number + 1) header pages file seen
-unmarked_next header marks pages file seen number lt can mark so_far = record {
-  same = so_far.same;
-  homes = so_far.homes;
-  saved = λ n below all. elim (cases_lt n number) [
-    | inl before ↦ so_far.saved n before all
-    | inr from ↦ (let e : n ≡ number = omega (arith, below, from) in subst (λ (m : ℕ). IsSaved header.llsn (page_in_force g m file) (pages m) (page_in_force header.generation m seen)) (sym e) this)
-  ];
-  others = λ n side from. so_far.others n side (omega (arith, from));
-}
-  where
-    g : ℕ
-    g = (header_in_force file).generation
-
-    this : IsSaved header.llsn (page_in_force g number file) (pages number) (page_in_force header.generation number seen)
-    this = stays (subst (λ (b : Bool). MarksChange b (pages number) (page_in_force g number file)) mark (can.marked number lt))
-        (sides_show header.generation number file seen (λ side. so_far.others number side (omega arith))
-        ∙ page_later g header.generation number file can.none_later (let e : header.generation ≡ g + 1 = can.may.next in omega (arith, e)) lt)
-
--- a marked page that was written: the next generation shows it
-pub written_next : (header : Header) (marks : List Bool) (pages : PageMap) (file seen new : List ℕ) (number : ℕ) → number < 4096 → CanWrite header marks pages file
-    → slice_index_or marks number false ≡ true → SavedBelow number header pages file seen
-    → ShowsSame file new → homes_fault header.generation 4096 new ≡ None
-    → ((n : ℕ) → n ≢ number → page_in_force header.generation n new ≡ page_in_force header.generation n seen)
-    → ((n : ℕ) (side : _) → n ≢ number → page_side n side new ≡ page_side n side seen)
-    → page_in_force header.generation number new ≡ record (pages number) { llsn = header.llsn } → SavedBelow (number + 1) header pages file new
-written_next header marks pages file seen new number lt can mark so_far same homes elsewhere sides shown = record {
+-- the marked pages were written: the next generation shows them, and the stored ones of the others
+pub all_saved : (header store : Header) (marks : List Bool) (pages : PageMap) (file new : List ℕ) → store ≡ header_in_force file → length marks ≡ 4096 → CanWrite header marks pages file
+    → ShowsSame file new → AllWritten store.generation header.generation header.llsn marks pages file new → SavedBelow 4096 header pages file new
+all_saved header store marks pages file new is long can same given = record {
   same = same;
-  homes = homes;
-  saved = λ n below all. elim (cases_lt n number) [
-    | inl before ↦ subst (λ (p : PageView). IsSaved header.llsn (page_in_force g n file) (pages n) p) (sym (elsewhere n (λ e. omega (arith, e, before)))) (so_far.saved n before all)
-    | inr from ↦ (let e : n ≡ number = omega (arith, below, from) in subst (λ (m : ℕ). IsSaved header.llsn (page_in_force g m file) (pages m) (page_in_force header.generation m new)) (sym e) this)
+  homes = done.homes (homes_later g header.generation file can.none_later (omega (arith, next)) (sound_parts file can.may.sound).homes);
+  saved = λ n below all. elim (cases_Bool (is_marked marks n)) [
+    | inl marked ↦ changes (subst (λ (b : Bool). MarksChange b (pages n) (page_in_force g n file)) marked (can.marked n all)) (done.shown n marked (smaller n all))
+    | inr none ↦ stays (subst (λ (b : Bool). MarksChange b (pages n) (page_in_force g n file)) none (can.marked n all))
+        (sides_show header.generation n file new (λ side. done.others n side none) ∙ page_later g header.generation n file can.none_later (omega (arith, next)) all)
   ];
-  others = λ n side from. sides n side (λ e. omega (arith, e, from)) ∙ so_far.others n side (omega (arith, from));
+  others = λ n side from. done.others n side (get_or_past marks n false (omega (arith, long, from)));
 }
   where
     g : ℕ
     g = (header_in_force file).generation
 
-    this : IsSaved header.llsn (page_in_force g number file) (pages number) (page_in_force header.generation number new)
-    this = changes (subst (λ (b : Bool). MarksChange b (pages number) (page_in_force g number file)) mark (can.marked number lt)) shown
+    next : header.generation ≡ g + 1
+    next = can.may.next
 
--- before any page was written
-pub none_written : (header : Header) (marks : List Bool) (pages : PageMap) (file : List ℕ) → CanWrite header marks pages file → SavedBelow 0 header pages file file
-none_written header marks pages file can = record {
-  same = same_self file can.may.sound;
-  homes = homes_later (header_in_force file).generation header.generation file can.none_later (let e : header.generation ≡ (header_in_force file).generation + 1 = can.may.next in omega (arith, e)) (sound_parts file can.may.sound).homes;
-  saved = λ n below all. absurd (omega (arith, below));
-  others = λ n side from. refl;
-}
+    done : AllWritten g header.generation header.llsn marks pages file new
+    done = subst (λ (h : Header). AllWritten h.generation header.generation header.llsn marks pages file new) is given
+
+    smaller : (n : ℕ) → n < 4096 → IsTrue (yields header.generation header.generation header.llsn (kept_side g n file))
+    smaller n lt =
+        let side = other (idle (page_side_in_force g n file)) in
+        side_yields g header.generation header.llsn (page_side n side file) (omega (arith, next)) (can.none_later n side lt)
 
 -- ---- the flip
 
@@ -182,13 +140,6 @@ pub flip_done : (header : Header) (pages : PageMap) (file c : List ℕ) → head
 flip_done header pages file c next is (inr new) = new
 flip_done header pages file c next is (inl same) =
     let e : header.generation ≡ (header_in_force file).generation = ap (λ (h : Header). h.generation) (sym is ∙ same.header) in absurd (omega (arith, next, e))
-
--- a page that is written as page 0, or 1, is such a page
-pub map_of : (pages : PageMap) (number llsn : ℕ) (page : PageView) → page ≡ record (pages number) { llsn = llsn } → IsTrue (is_map (pages 0)) → number ≡ 0 → IsTrue (is_map page)
-map_of pages number llsn page is map z = ap is_map is ∙ ap (λ (n : ℕ). is_map (record (pages n) { llsn = llsn })) z ∙ map
-
-pub root_of : (pages : PageMap) (number llsn : ℕ) (page : PageView) → page ≡ record (pages number) { llsn = llsn } → IsTrue (is_root (pages 1)) → number ≡ 1 → IsTrue (is_root page)
-root_of pages number llsn page is root z = ap is_root is ∙ ap (λ (n : ℕ). is_root (record (pages n) { llsn = llsn })) z ∙ root
 
 -- later sides were closed, so new pages can be written
 pub can_write : (header store : Header) (marks : List Bool) (pages : PageMap) (file closed : List ℕ) → store ≡ header_in_force file → MaySave header pages file

@@ -139,6 +139,7 @@ fn write_marked<D: Disk>(
     requires marks { length marks.now.items ≡ 4096 }
     requires pages { length pages.now.items ≡ 4096 }
     requires header { IsHeader header.now }
+    requires next { header.now.generation ≡ store.old.header.generation + 1 }
     ensures same_reference { store.new.disk.ghost_name ≡ store.old.disk.ghost_name }
     ensures header { store.new.header ≡ store.old.header }
     ensures live { OnOk result (store.new.live ≡ true) }
@@ -151,74 +152,5 @@ fn write_marked<D: Disk>(
         → OnOk result (SavedBelow 4096 header.now (page_at pages.now.items) (D.seen store.old.disk.now) (D.seen store.new.disk.now)) }
     ensures cause { OnErr result (Rose (D.faults store.old.disk.now) (D.faults store.new.disk.now)) }
 {
-    for number in 0..4096u16 {
-        write_one(store, marks, pages, number, header)?;
-    }
-    Ok(())
-}
-
-// Writes a page, where it is marked.
-fn write_one<D: Disk>(
-    store: &mut Store<'_, D>,
-    marks: &Vec<bool>,
-    pages: &Pages,
-    number: u16,
-    header: &Header,
-) -> Result<(), Failed>
-    requires open { store.old.live ≡ true }
-    requires marks { length marks.now.items ≡ 4096 }
-    requires pages { length pages.now.items ≡ 4096 }
-    requires number { number < 4096 }
-    requires header { IsHeader header.now }
-    ensures same_reference { store.new.disk.ghost_name ≡ store.old.disk.ghost_name }
-    ensures header { store.new.header ≡ store.old.header }
-    ensures live { OnOk result (store.new.live ≡ true) }
-    ensures still { StillDisk D.Disk store.old.disk.now store.new.disk.now }
-    ensures left { (file : List ℕ) → IsTrue (D.tells store.old.disk.now)
-        → CanWrite header.now marks.now.items (page_at pages.now.items) file
-        → SavedBelow number header.now (page_at pages.now.items) file (D.seen store.old.disk.now)
-        → (c : List ℕ) → D.image store.new.disk.now c → ShowsSame file c }
-    ensures saved { (file : List ℕ) → IsTrue (D.tells store.old.disk.now)
-        → CanWrite header.now marks.now.items (page_at pages.now.items) file
-        → SavedBelow number header.now (page_at pages.now.items) file (D.seen store.old.disk.now)
-        → OnOk result (SavedBelow (number + 1) header.now (page_at pages.now.items) file (D.seen store.new.disk.now)) }
-    ensures cause { OnErr result (Rose (D.faults store.old.disk.now) (D.faults store.new.disk.now)) }
-{
-    if !marks[usize::from(number)] {
-        return Ok(());
-    }
-    write_new(store, marks, pages, number, header)
-}
-
-// Writes a marked page.
-fn write_new<D: Disk>(
-    store: &mut Store<'_, D>,
-    marks: &Vec<bool>,
-    pages: &Pages,
-    number: u16,
-    header: &Header,
-) -> Result<(), Failed>
-    requires open { store.old.live ≡ true }
-    requires marks { length marks.now.items ≡ 4096 }
-    requires pages { length pages.now.items ≡ 4096 }
-    requires number { number < 4096 }
-    requires header { IsHeader header.now }
-    requires marked { slice_index_or marks.now.items number false ≡ true }
-    ensures same_reference { store.new.disk.ghost_name ≡ store.old.disk.ghost_name }
-    ensures header { store.new.header ≡ store.old.header }
-    ensures live { OnOk result (store.new.live ≡ true) }
-    ensures still { StillDisk D.Disk store.old.disk.now store.new.disk.now }
-    ensures left { (file : List ℕ) → IsTrue (D.tells store.old.disk.now)
-        → CanWrite header.now marks.now.items (page_at pages.now.items) file
-        → SavedBelow number header.now (page_at pages.now.items) file (D.seen store.old.disk.now)
-        → (c : List ℕ) → D.image store.new.disk.now c → ShowsSame file c }
-    ensures saved { (file : List ℕ) → IsTrue (D.tells store.old.disk.now)
-        → CanWrite header.now marks.now.items (page_at pages.now.items) file
-        → SavedBelow number header.now (page_at pages.now.items) file (D.seen store.old.disk.now)
-        → OnOk result (SavedBelow (number + 1) header.now (page_at pages.now.items) file (D.seen store.new.disk.now)) }
-    ensures cause { OnErr result (Rose (D.faults store.old.disk.now) (D.faults store.new.disk.now)) }
-{
-    let mut page = *pages.get(usize::from(number));
-    page.set_llsn(header.llsn);
-    store.write_page(number, &page, header.generation)
+    store.write_pages(marks, pages, header)
 }

@@ -8,5 +8,6 @@ pub mod ShownAfter
 pub mod FreshFiles
 pub mod SoundAfter
 pub mod LaterShown
+pub mod PassedSides
 pub mod FreshImages
 pub mod CleanFiles

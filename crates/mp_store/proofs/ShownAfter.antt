@@ -36,7 +36,7 @@ pages_apart m n s t differ = elim (cases_lt m n) [
   | inr above ↦ inr (homes_apart n m t s (omega arith))
 ]
 
-sides_apart : (n : ℕ) (s : Side) → (page_place n (other s) + 1040 ≤ page_place n s) ⊎ (page_place n s + 1040 ≤ page_place n (other s))
+pub sides_apart : (n : ℕ) (s : Side) → (page_place n (other s) + 1040 ≤ page_place n s) ⊎ (page_place n s + 1040 ≤ page_place n (other s))
 sides_apart n First = inr (omega arith)
 sides_apart n Second = inl (omega arith)
 
@@ -91,7 +91,7 @@ unfolding page_of_home side_in_force force
 home_is g first second = shown_page_is (side_in_force g first second) first second
 
 -- where the first side isn't in force: it may count no more, or count anew
-first_gone : (x y z later : Bool) (p q new : PageView) → idle (force x y z) ≡ First → shown_by (force false y later) new q ≡ shown_by (force x y z) p q
+pub first_gone : (x y z later : Bool) (p q new : PageView) → idle (force x y z) ≡ First → shown_by (force false y later) new q ≡ shown_by (force x y z) p q
 unfolding force shown_by
 first_gone false false z later p q new e = refl
 first_gone false true z later p q new e = refl
@@ -109,7 +109,7 @@ first_new true true true true p q new e = inl refl
 first_new true true false true p q new e = absurd (cc)
 
 -- where the second side isn't in force, and the first one is
-second_gone : (x y z later : Bool) (p q new : PageView) → idle (force x y z) ≡ Second → shown_by (force x false later) p new ≡ shown_by (force x y z) p q
+pub second_gone : (x y z later : Bool) (p q new : PageView) → idle (force x y z) ≡ Second → shown_by (force x false later) p new ≡ shown_by (force x y z) p q
 unfolding force shown_by
 second_gone true false z later p q new e = refl
 second_gone true true false later p q new e = refl
@@ -309,11 +309,10 @@ second_wins true false p new above = absurd (cc)
 pair_below : (g h l m : ℕ) → (nat_lt g h || (g == h && nat_lt l m)) ≡ true → (nat_lt h g || (h == g && nat_lt m l)) ≡ false
 pair_below g h l m below = grind (arith, nat_tests)
 
-pub page_after : (store g number generation : ℕ) (page : PageView) (side old new : List ℕ) → length side ≡ 1040 → Shows side generation page → generation ≤ g
-    → yields g generation page.llsn (kept_side store number old) ≡ true
-    → SameOutside (idle_place store number old) (idle_place store number old + 1040) old new → part (idle_place store number old) 1040 new ≡ side
-    → page_in_force g number new ≡ page
-page_after store g number generation page side old new long shows counted smaller elsewhere is = by_side (idle (page_side_in_force store number old)) smaller (other_kept number _ old new elsewhere) is
+pub side_shown : (g number generation : ℕ) (page : PageView) (side old new : List ℕ) (written : Side) → Shows side generation page → generation ≤ g
+    → yields g generation page.llsn (page_side number (other written) old) ≡ true → page_side number (other written) new ≡ page_side number (other written) old
+    → part (page_place number written) 1040 new ≡ side → page_in_force g number new ≡ page
+side_shown g number generation page side old new written shows counted smaller kept is = by_side written smaller kept is
   where
     counted_side : counts g side ≡ true
     counted_side = new_counts g side generation page shows ∙ le-leb generation g counted
@@ -338,6 +337,13 @@ page_after store g number generation page side old new long shows counted smalle
         ∙ ap (λ x. shown_by (force (counts g kept_side_) x (outranks side kept_side_)) (page_in kept_side_) (page_in side)) counted_side
         ∙ second_wins (counts g kept_side_) (outranks side kept_side_) (page_in kept_side_) (page_in side) above
         ∙ shows.page_is
+
+pub page_after : (store g number generation : ℕ) (page : PageView) (side old new : List ℕ) → length side ≡ 1040 → Shows side generation page → generation ≤ g
+    → yields g generation page.llsn (kept_side store number old) ≡ true
+    → SameOutside (idle_place store number old) (idle_place store number old + 1040) old new → part (idle_place store number old) 1040 new ≡ side
+    → page_in_force g number new ≡ page
+page_after store g number generation page side old new long shows counted smaller elsewhere is =
+    side_shown g number generation page side old new (idle (page_side_in_force store number old)) shows counted smaller (other_kept number _ old new elsewhere) is
 
 -- ---- a header's side was written
 

@@ -52,7 +52,7 @@ unfolding homes_fault
 each_home g zero file each = refl
 each_home g (suc all) file each = rw (each_home g all file (λ number lt. each number (omega arith)), each all (omega arith)) refl
 
-both_sound : (g place : ℕ) (first second : List ℕ) → sides_fault g place first second ≡ None
+pub both_sound : (g place : ℕ) (first second : List ℕ) → sides_fault g place first second ≡ None
     → (only_if (counts g first) (side_fault place first) ≡ None) × (only_if (counts g second) (side_fault (place + 1040) second) ≡ None)
 unfolding sides_fault
 both_sound g place first second h =
@@ -61,7 +61,7 @@ both_sound g place first second h =
     let a = none_first f (s ∷ []) h in
     (a.0, (none_first s [] a.1).0)
 
-sound_both : (g place : ℕ) (first second : List ℕ) → only_if (counts g first) (side_fault place first) ≡ None → only_if (counts g second) (side_fault (place + 1040) second) ≡ None
+pub sound_both : (g place : ℕ) (first second : List ℕ) → only_if (counts g first) (side_fault place first) ≡ None → only_if (counts g second) (side_fault (place + 1040) second) ≡ None
     → sides_fault g place first second ≡ None
 unfolding sides_fault
 sound_both g place first second f s = rw (f, s) refl
@@ -84,7 +84,7 @@ new_side_sound place generation page least fits is_page =
     let test : nat_le 1 (page_generation (open_side (page_body generation page))) ≡ true = ap (nat_le 1) (shows.generation_is) ∙ le-leb 1 generation least in
     rw (test, (spelling-sound page is_page).0) refl
 
-home_left : (g number : ℕ) (written : Side) (side old new : List ℕ) → ((place : ℕ) → side_fault place side ≡ None)
+pub home_left : (g number : ℕ) (written : Side) (side old new : List ℕ) → ((place : ℕ) → side_fault place side ≡ None)
     → page_side number (other written) new ≡ page_side number (other written) old → SideIs side (page_side number written old) (page_side number written new)
     → home_fault g number old ≡ None → home_fault g number new ≡ None
 home_left g number First side old new whole kept is was =

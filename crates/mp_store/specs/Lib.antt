@@ -10,3 +10,4 @@ pub mod SmallSides
 pub mod OpenStores
 pub mod LaterSides
 pub mod CleanStores
+pub mod Passes

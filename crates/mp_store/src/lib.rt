@@ -11,6 +11,7 @@ mod headers;
 mod later;
 mod opening;
 mod page_sides;
+mod passes;
 mod reading;
 mod refusals;
 mod sides;

@@ -1,8 +1,9 @@
 //! The store.
 
-ghost use Rattle.std.specs.Prelude.{None, true, false, ◌≡◌, ◌≢◌, ℕ, ◌<◌, ◌≤◌, IsTrue, List, IfOk, IfErr, OnOk, OnErr, Err};
+ghost use Rattle.std.specs.Prelude.{None, length, true, false, ◌≡◌, ◌≢◌, ℕ, ◌<◌, ◌≤◌, IsTrue, List, IfOk, IfErr, OnOk, OnErr, Err};
 ghost use Rattle.mp_outside.specs.Faults.{Rose};
 ghost use Rattle.mp_outside.specs.Disks.{written, Quiet};
+ghost use Rattle.mp_cells.specs.PageMaps.{page_at};
 ghost use Rattle.mp_cells.specs.PageView.{IsPage};
 ghost use Rattle.mp_store.specs.declared.sides.Side.{Side};
 ghost use Rattle.mp_store.specs.Layout.{store_length, page_side};
@@ -12,16 +13,18 @@ ghost use Rattle.mp_store.specs.StoreFiles.{header_in_force, page_in_force, page
 ghost use Rattle.mp_store.specs.Answers.{StoreFinds, StoreCause, NeedsNoMemory};
 ghost use Rattle.mp_store.specs.SideWrites.{SideLeft, PageLeft, HeaderLeft, open_side, yields, kept_side, idle_place, idle_header_place};
 ghost use Rattle.mp_store.specs.OpenStores.{IsOpenOn, NoLater, LaterLeft};
+ghost use Rattle.mp_store.specs.Passes.{WrittenBeside, AllWritten};
 
 use crate::checking::read_map_in_force;
 use crate::headers::Header;
 use crate::later::close_all_later;
 use crate::opening::check_all;
+use crate::passes::write_together;
 use crate::reading::read_in_force;
 use crate::refusals::StoreRefusal;
 use crate::updates::{flip_over, write_page_over};
 use mp_outside::{Disk, Failed};
-use mp_page::Page;
+use mp_page::{Page, Pages};
 use std::alloc::Global;
 
 /// A store that was opened on a disk, which it borrows. It keeps the header in force and no page. It is open until one
@@ -224,6 +227,41 @@ impl<'a, D: Disk> Store<'a, D> {
         ensures cause { OnErr result (Rose (D.faults self.old.disk.now) (D.faults self.new.disk.now)) }
     {
         let done = write_page_over(self.disk, &self.header, number, page, generation);
+        self.live = done.is_ok();
+        done
+    }
+
+    /// Writes the marked ones of 4,096 pages, each into its side that isn't in force, with the LLSN and the generation of
+    /// a header. It closes the gates that are open, fills in the bodies, and opens the gates, and one sync makes each of
+    /// the three safe before the next. The store is open, and the header's generation is above the store's. `Failed`
+    /// comes only where the disk's count of faults rose; then the store is closed. It takes no memory.
+    pub fn write_pages(
+        &mut self,
+        marks: &Vec<bool>,
+        pages: &Pages,
+        header: &Header,
+    ) -> Result<(), Failed>
+        requires open { self.old.live ≡ true }
+        requires marks { length marks.now.items ≡ 4096 }
+        requires pages { length pages.now.items ≡ 4096 }
+        requires header { IsHeader header.now }
+        requires generation { self.old.header.generation < header.now.generation }
+        ensures same_reference { self.new.disk.ghost_name ≡ self.old.disk.ghost_name }
+        ensures header { self.new.header ≡ self.old.header }
+        ensures live { OnOk result (self.new.live ≡ true) }
+        ensures shut { OnErr result (self.new.live ≡ false) }
+        ensures tells { D.tells self.new.disk.now ≡ D.tells self.old.disk.now }
+        // Whatever it answers, a crash leaves a store that shows what it showed.
+        ensures left { IsTrue (D.tells self.old.disk.now) → (c : List ℕ) → D.image self.new.disk.now c
+            → WrittenBeside self.old.header.generation (D.seen self.old.disk.now) c }
+        // After Ok the new generation shows the marked pages, wherever their other sides count less.
+        ensures done { IsTrue (D.tells self.old.disk.now)
+            → OnOk result (AllWritten self.old.header.generation header.now.generation header.now.llsn marks.now.items
+            (page_at pages.now.items) (D.seen self.old.disk.now) (D.seen self.new.disk.now)) }
+        ensures count { D.faults self.old.disk.now ≤ D.faults self.new.disk.now }
+        ensures cause { OnErr result (Rose (D.faults self.old.disk.now) (D.faults self.new.disk.now)) }
+    {
+        let done = write_together(self.disk, self.header.generation, marks, pages, header);
         self.live = done.is_ok();
         done
     }

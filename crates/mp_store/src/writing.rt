@@ -14,7 +14,7 @@ use mp_gated::{write_gated, write_safely};
 use mp_outside::{Disk, Failed};
 
 /// The byte that closes a gate.
-const CLOSED: u8 = 0;
+pub(crate) const CLOSED: u8 = 0;
 
 // Closes the gate at a place where it is open, and makes that safe. A closed gate isn't written again: until it is
 // safe, a crash might leave it open.
@@ -60,8 +60,8 @@ pub(crate) fn write_side<D: Disk>(
     write_gated(disk, place, body)
 }
 
-// Whether the gate of one of two sides is open.
-fn is_gate_open(side: Side, first: &[u8], second: &[u8]) -> bool
+/// Whether the gate of one of two sides is open.
+pub(crate) fn is_gate_open(side: Side, first: &[u8], second: &[u8]) -> bool
     requires first { 0 < length first.now }
     requires second { 0 < length second.now }
     ensures { result ≡ is_open (pick side first.now second.now) }
