@@ -3,6 +3,7 @@ use Rattle.std.proofs.Common.{◌≡◌, ◌≢◌, ◌∙◌, ℕ, List, Option
 use Rattle.mp_outside.specs.declared.disks.Disk.{Ghosts}
 use Rattle.mp_files.specs.declared.disks.Disks.{Disks}
 use Rattle.mp_files.specs.Nine.{KeptNine}
+use Rattle.mp_files.proofs.Nines.{KeptNine-refl}
 use Rattle.mp_commands.specs.Fresh.{Made}
 use Rattle.mp_app.specs.declared.commands.Command.{Command}
 use Rattle.mp_app.specs.declared.commands.Command.TheVariants.{Session, Plain}
@@ -47,17 +48,17 @@ module _ {D : Type 0} (g : Ghosts D) where
       → Names words command → WritesFront (CommandSays g command source old new) before after → WritesFront (Says g words source old new) before after
   front_said words source old new command before after names front = record { status = front.status; text = front.text; said = inr (command, names, front.said); written = front.written }
 
-  memory_said : (command : Command) (source : SourceUse) (old new : Disks D) (text : List ℕ) → text ≡ no_memory_text → CommandSays g command source old new NoMemory text
-  memory_said (Session Step) source old new text is = is
-  memory_said (Plain Init) source old new text is = is
-  memory_said (Plain Recover) source old new text is = is
-  memory_said (Plain Dump) source old new text is = is
-  memory_said (Plain Logs) source old new text is = is
+  memory_said : (command : Command) (source : SourceUse) (disks : Disks D) (text : List ℕ) → text ≡ no_memory_text → CommandSays g command source disks disks NoMemory text
+  memory_said (Session Step) source disks text is = is
+  memory_said (Plain Init) source disks text is = is
+  memory_said (Plain Recover) source disks text is = record { stands = inl (KeptNine-refl g disks); printed = is }
+  memory_said (Plain Dump) source disks text is = is
+  memory_said (Plain Logs) source disks text is = is
 
-  pub refusal_said : (words : List (List ℕ)) (source : SourceUse) (old new : Disks D) (refusal : WordsRefusal) (output : Output)
-      → ReadsWords words (Err refusal) → PrintsWordsRefusal refusal output → Says g words source old new output.status (text_of output.printed)
-  refusal_said words source old new Usage output none says = inl (none, says.0, says.1)
-  refusal_said words source old new Memory output read says = rw (says.0) (inr (read.0, read.1, memory_said read.0 source old new (text_of output.printed) says.1))
+  pub refusal_said : (words : List (List ℕ)) (source : SourceUse) (disks : Disks D) (refusal : WordsRefusal) (output : Output)
+      → ReadsWords words (Err refusal) → PrintsWordsRefusal refusal output → Says g words source disks disks output.status (text_of output.printed)
+  refusal_said words source disks Usage output none says = inl (none, says.0, says.1)
+  refusal_said words source disks Memory output read says = rw (says.0) (inr (read.0, read.1, memory_said read.0 source disks (text_of output.printed) says.1))
 
   -- no command ends with the sink's status before its text is written
   sink_said : (command : Command) (source : SourceUse) (old new : Disks D) (text : List ℕ) → CommandSays g command source old new Sink text → ⊥

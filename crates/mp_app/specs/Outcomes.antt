@@ -159,12 +159,17 @@ module _ {D : Type 0} (g : Ghosts D) where
     pub rose : FaultsRose fault old new
     pub printed : text ≡ disk_failed_text fault
 
+  -- there was no memory, and the disks are as they were, or recovered, or the count of faults of one rose
+  pub record WantsMemory (old new : Disks D) (text : List ℕ) : Type 0 where
+    pub stands : KeptNine g old new ⊎ (Recovers old new ⊎ ((fault : DiskFault) × FaultsRose fault old new))
+    pub printed : text ≡ no_memory_text
+
   -- when `recover` ends with a status, and its text
   abbrev pub RecoverSays : Disks D → Disks D → Status → List ℕ → Type 0
   RecoverSays old new Done text = ShowsRecovered old new text
   RecoverSays old new Store text = RefusesContent old new text
   RecoverSays old new Disk text = NamesFailed old new text
-  RecoverSays old new Memory text = text ≡ no_memory_text
+  RecoverSays old new Memory text = WantsMemory old new text
   RecoverSays old new _ text = ⊥
 
   -- the text is that of the logs, which are of the grammar; of logs that don't tell their bytes nothing is said

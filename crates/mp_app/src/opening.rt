@@ -4,18 +4,19 @@ ghost use Rattle.std.specs.Prelude.{◌≡◌, ◌≢◌, IfOk, IfErr, length};
 
 use crate::output::Output;
 use crate::status::Status;
-use mp_files::{Disks, FileDisk, FileRefusal};
+use mp_files::{Disks, FileDisk, FileRefusal, WindowDisk};
+use mp_model::Memory;
 
 /// How many logs there are.
 const LOGS: u8 = 8;
 
 /// Opens `store.mp` and `log1.mp` to `log8.mp` in the current folder, and makes missing ones empty. Where one can't be
 /// opened, that its disk failed is what is to be said.
-pub fn open_disks(rt: HostRuntime) -> Result<Disks<FileDisk>, Output>
+pub fn open_disks(rt: HostRuntime) -> Result<Disks<WindowDisk<FileDisk>>, Output>
     ensures eight { IfOk result (λ disks. length disks.logs.items ≡ 8) }
     ensures status { IfErr result (λ output. output.status ≢ Status.Sink) }
 {
-    let store = match FileDisk::open(rt, "store.mp") {
+    let store = match open_ahead(rt, "store.mp") {
         Ok(store) => store,
         Err(FileRefusal::Failed) => return Err(Output::store_failed()),
         Err(FileRefusal::Memory) => return Err(Output::no_memory()),
@@ -24,7 +25,7 @@ pub fn open_disks(rt: HostRuntime) -> Result<Disks<FileDisk>, Output>
     Ok(Disks { store, logs })
 }
 
-fn open_logs(rt: HostRuntime) -> Result<Vec<FileDisk>, Output>
+fn open_logs(rt: HostRuntime) -> Result<Vec<WindowDisk<FileDisk>>, Output>
     ensures eight { IfOk result (λ logs. length logs.items ≡ 8) }
     ensures status { IfErr result (λ output. output.status ≢ Status.Sink) }
 {
@@ -39,15 +40,24 @@ fn open_logs(rt: HostRuntime) -> Result<Vec<FileDisk>, Output>
 }
 
 // Opens the log of a primary.
-fn open_log(rt: HostRuntime, primary: u8) -> Result<FileDisk, Output>
+fn open_log(rt: HostRuntime, primary: u8) -> Result<WindowDisk<FileDisk>, Output>
     ensures status { IfErr result (λ output. output.status ≢ Status.Sink) }
 {
     let Ok(name) = format!(in rt.alloc(); "log{primary}.mp") else {
         return Err(Output::no_memory());
     };
-    match FileDisk::open(rt, name.as_str()) {
+    match open_ahead(rt, name.as_str()) {
         Ok(log) => Ok(log),
         Err(FileRefusal::Failed) => Err(Output::log_failed(rt.alloc(), primary)),
         Err(FileRefusal::Memory) => Err(Output::no_memory()),
+    }
+}
+
+// Opens a file that is read ahead.
+fn open_ahead(rt: HostRuntime, name: &str) -> Result<WindowDisk<FileDisk>, FileRefusal> {
+    let file = FileDisk::open(rt, name)?;
+    match WindowDisk::new(rt.alloc(), file) {
+        Ok(disk) => Ok(disk),
+        Err(Memory) => Err(FileRefusal::Memory),
     }
 }

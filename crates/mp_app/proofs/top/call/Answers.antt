@@ -26,7 +26,7 @@ pub returns-in-Err-clause-cut : goal.returns-in-Err-clause-cut
 returns-in-Err-clause-cut g c = λ is. record {
   status = c.words_refusal.result.status;
   text = text_of c.words_refusal.result.printed;
-  said = refusal_said g.D.Disk (map string_bytes c.args.words.now) (read_of g.S.Source c.args.source.now c.args.source.now) c.args.disks.now c.args.disks.now c.in-Err.refusal c.words_refusal.result c.in-Err.ensures c.words_refusal.ensures;
+  said = refusal_said g.D.Disk (map string_bytes c.args.words.now) (read_of g.S.Source c.args.source.now c.args.source.now) c.args.disks.now c.in-Err.refusal c.words_refusal.result c.in-Err.ensures c.words_refusal.ensures;
   written = c.print.ensures.cut is;
 }
 
