@@ -251,3 +251,69 @@ fn chains_that_end_nowhere_are_rolled_back(rt: HostRuntime) -> Result<(), Fail> 
     assert!(rt; matches!(answer_of(alloc, &lost, &[0])?, Ok((0, 0, 1, _))));
     Ok(())
 }
+
+// Where the undo record of such a log has its page, the LLSN before it, and its key.
+const UNDO_PAGE: usize = 40;
+
+const UNDO_PREV: usize = 42;
+
+const UNDO_KEY: usize = 50;
+
+// The log of the first put, with other bytes at some places.
+fn changed_log(alloc: Global, bytes: &[(usize, u8)], commits: bool) -> Result<Vec<u8>, Memory> {
+    let mut log = log_of_put(alloc, &FIRST, None, commits)?;
+    for (place, byte) in bytes {
+        if let Some(old) = log.get_mut(*place) {
+            *old = *byte;
+        }
+    }
+    Ok(log)
+}
+
+// An undo record of another key isn't a version of the row: where the put isn't kept, the row stays as its last version.
+// An undo record on a leaf doesn't fit.
+#[test]
+fn odd_undo_records(rt: HostRuntime) -> Result<(), Fail> {
+    let alloc = rt.alloc();
+    let unfit = RecoverRefusal::NotApplicable { page: 1, llsn: 1 };
+    let other_key = [(UNDO_KEY, 5u8)];
+    let on_leaf = [(UNDO_PAGE, 1u8), (UNDO_PREV, 0)];
+    let rows = [
+        (other_key.as_slice(), true, Ok((1, 1, 0, 1))),
+        (&other_key, false, Ok((0, 0, 1, 1))),
+        (&on_leaf, true, Err(unfit)),
+        (&on_leaf, false, Err(unfit)),
+    ];
+    for (bytes, commits, answer) in rows {
+        let log = changed_log(alloc, bytes, commits)?;
+        assert_eq!(rt; answer_of(alloc, &log, &[0])?, answer);
+    }
+    Ok(())
+}
+
+// Of two mtrs with one LLSN that of primary 1 comes first.
+#[test]
+fn equal_llsns_go_by_primary(rt: HostRuntime) -> Result<(), Fail> {
+    let alloc = rt.alloc();
+    let gap = RecoverRefusal::Gap {
+        page: 0,
+        wanted: 1,
+        found: 0,
+    };
+    let rows = [(0, 1, Ok((2, 2, 0, 2))), (1, 0, Err(gap))];
+    for (first_prev, second_prev, answer) in rows {
+        let first = Put {
+            prev: first_prev,
+            ..FIRST
+        };
+        let second = Put {
+            llsn: 1,
+            prev: second_prev,
+            ..SECOND
+        };
+        let one = log_of_put(alloc, &first, None, true)?;
+        let two = log_of_put(alloc, &second, None, true)?;
+        assert_eq!(rt; answer_of(alloc, &one, &two)?, answer);
+    }
+    Ok(())
+}
