@@ -42,16 +42,24 @@ timed() {
 
 step_from() { "$mp" step < "$1"; }
 
+count_bytes() { cat store.mp log?.mp | wc -c; }
+
 timed "step, 10,000 statements, 9,998 puts of distinct keys" step_from puts.mps
 timed "step, a script of 1,048,576 bytes with 10,000 statements" step_from longest.mps
 # the logs that a crash leaves of four primaries, over a fresh store; the bound is 50 ms for the first, 300 ms for the second
 for commits in 752 10000; do
     "$mp" init > out
     python3 "$root/bench/logs.py" "$commits"
+    timed "the same bytes, read by cat" count_bytes
     timed "recover, $commits commits in four logs over a fresh store, 512 rows" "$mp" recover
 done
+# a recovery syncs its files about so often
+timed "41 syncs of a file, each behind a write of 1 KB" dd if=/dev/zero of=syncs bs=1024 count=41 oflag=dsync status=none
 
 timed "mp_bench, 40,960 full leaves filled, written and read" "$bench" pages 40960
 timed "mp_bench, 100,000 mtrs of four records made, written and read" "$bench" mtrs 100000
 timed "mp_bench, 100 times 200 transactions over a shared table, by one thread" "$bench" commits 100
 timed "mp_bench, 100 times 800 transactions over a shared table, by four threads" "$bench" threads 100
+timed "mp_bench, 100 times a table of 4,096 pages opened and closed" "$bench" tables 100
+timed "mp_bench, 100 times one page taken in turn 10,000 times, by one thread" "$bench" turns 100
+timed "mp_bench, 100 times one page taken in turn 10,000 times each, by four threads" "$bench" contend 100

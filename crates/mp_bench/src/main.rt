@@ -5,6 +5,8 @@
 mod commits;
 mod mtrs;
 mod pages;
+mod tables;
+mod turns;
 
 use mp_model::Memory;
 use std::alloc::Global;
@@ -30,7 +32,9 @@ fn main(rt: HostRuntime) -> io::Result<ExitCode> {
 }
 
 fn usage(rt: &HostRuntime) -> io::Result<ExitCode> {
-    println!(*rt; "usage: mp_bench pages, mtrs, commits, threads or all ROUNDS")?;
+    println!(*rt;
+        "usage: mp_bench pages, mtrs, commits, threads, tables, turns, contend or all ROUNDS"
+    )?;
     Ok(ExitCode::from(1))
 }
 
@@ -45,6 +49,12 @@ enum Work {
     Commits,
     /// Four threads commit 200 transactions each over a shared table.
     Threads,
+    /// A table is opened and closed.
+    Tables,
+    /// One thread takes one page 10,000 times in turn over a shared table.
+    Turns,
+    /// Four threads take one page 10,000 times each in turn over a shared table.
+    Contend,
 }
 
 // The works that a word names.
@@ -54,7 +64,18 @@ fn works_of(word: &str) -> Option<&'static [Work]> {
         "mtrs" => Some(&[Work::Mtrs]),
         "commits" => Some(&[Work::Commits]),
         "threads" => Some(&[Work::Threads]),
-        "all" => Some(&[Work::Pages, Work::Mtrs, Work::Commits, Work::Threads]),
+        "tables" => Some(&[Work::Tables]),
+        "turns" => Some(&[Work::Turns]),
+        "contend" => Some(&[Work::Contend]),
+        "all" => Some(&[
+            Work::Pages,
+            Work::Mtrs,
+            Work::Commits,
+            Work::Threads,
+            Work::Tables,
+            Work::Turns,
+            Work::Contend,
+        ]),
         _ => None,
     }
 }
@@ -66,6 +87,9 @@ impl Work {
             Work::Mtrs => "mtrs",
             Work::Commits => "commits",
             Work::Threads => "threads",
+            Work::Tables => "tables",
+            Work::Turns => "turns",
+            Work::Contend => "contend",
         }
     }
 
@@ -75,6 +99,9 @@ impl Work {
             Work::Mtrs => mtrs::write_and_read(alloc, rounds),
             Work::Commits => commits::by_one(alloc, rounds),
             Work::Threads => commits::by_four(rt, alloc, rounds),
+            Work::Tables => tables::open_and_close_each(alloc, rounds),
+            Work::Turns => turns::by_one(alloc, rounds),
+            Work::Contend => turns::by_four(rt, alloc, rounds),
         }
     }
 }

@@ -1,1 +1,3 @@
 mod Looks
+mod Forced
+mod Tries

@@ -1,0 +1,10 @@
+use denote.Param.Send.{sendable}
+use Rattle.std.proofs.Crossing.{crosses}
+use Rattle.mp_shared.proofs.Sent.{node_send, shared_sync}
+use Rattle.mp_trials.proofs.turn_runs.turns_by_two.Goals as goal
+
+pub join-requires-send-F : goal.join-requires-send-F
+join-requires-send-F g c κs within = search (sendable, crosses, node_send, shared_sync) depth 20
+
+pub join-requires-send-A : goal.join-requires-send-A
+join-requires-send-A g c κs within = search (sendable, crosses, node_send) depth 20
