@@ -1,0 +1,10 @@
+pub mod Desks
+pub mod Planned
+pub mod Making
+pub mod LetGo
+pub mod Statements
+pub mod ReadHalts
+pub mod Writes
+pub mod Rolling
+pub mod Ending
+pub mod SmallDesks
