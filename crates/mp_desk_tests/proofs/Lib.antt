@@ -1,0 +1,3 @@
+mod FirstParts
+mod FirstMedia
+mod OneWrite
