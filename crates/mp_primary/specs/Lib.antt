@@ -1,0 +1,10 @@
+pub mod Primaries
+pub mod Holders
+pub mod Turns
+pub mod OutsideCalls
+pub mod AtWork
+pub mod GoingOn
+pub mod WriteTurns
+pub mod Reads
+pub mod SmallPrimaries
+pub mod Commits
