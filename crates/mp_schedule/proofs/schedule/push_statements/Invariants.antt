@@ -1,0 +1,6 @@
+use Rattle.std.proofs.Common.{◌≡◌, ◌++◌, map, drop}
+use Rattle.mp_schedule.specs.Schedules.{free_try}
+use Rattle.mp_schedule.proofs.schedule.push_statements.Given as goal
+
+abbrev pub invariant-loop-line : goal.invariant-loop-line
+invariant-loop-line l = l.tries.items ++ map (λ line. free_try line.session) (drop l.line-index l.lines) ≡ l.fn.tries.items ++ map (λ line. free_try line.session) l.lines
