@@ -1,0 +1,6 @@
+mod Cells
+mod Levels
+mod Used
+mod PageTests
+mod PagesToTree
+mod TreeToPages
