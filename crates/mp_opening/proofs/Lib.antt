@@ -1,0 +1,4 @@
+mod OpenedLogs
+mod NothingAbove
+mod OpenedNine
+mod SmallMtrs
