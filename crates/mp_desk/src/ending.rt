@@ -47,6 +47,7 @@ fn room_for_commit<D: Disk>(
     ensures open { (llsn : ℕ) → IsOpenLog p llsn media.old.log → OnOk result (IsOpenLog p llsn media.new.log) }
     ensures room { OnOk result (27 ≤ room_of media.new.log.tail) }
     ensures counts { Counts result (D.faults media.old.log.disk) (D.faults media.new.log.disk) }
+    ensures tells { D.tells media.new.log.disk ≡ D.tells media.old.log.disk }
 {
     if media.log.room() < COMMIT_ROOM {
         return media.force(shared, node, p);
@@ -85,6 +86,7 @@ impl Desk {
         ensures media { (work : Work) → MediaAgree D.Disk work 0 media.old p node.old
             → MediaAfterCommit D.Disk work p media.new node.new result }
         ensures counts { Counts result (D.faults media.old.log.disk) (D.faults media.new.log.disk) }
+        ensures tells { D.tells media.new.log.disk ≡ D.tells media.old.log.disk }
     {
         if let Err(_failed) = room_for_commit(media, shared, node, p) {
             return Err(CommitHalt::Failed);

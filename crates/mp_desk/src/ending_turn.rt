@@ -88,6 +88,7 @@ impl Desk {
         ensures open { OnOk result (IsOpenLog p self.new.llsn media.new.log) }
         ensures closed { OnErr result (media.new.log.tail.live ≡ false) }
         ensures counts { Counts result (D.faults media.old.log.disk) (D.faults media.new.log.disk) }
+        ensures tells { D.tells media.new.log.disk ≡ D.tells media.old.log.disk }
     {
         media.force(shared, node, p)?;
         self.push_all(shared, node, p);

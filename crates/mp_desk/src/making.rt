@@ -129,6 +129,7 @@ impl Desk {
         ensures log { IsOpenLog p self.new.llsn media.new.log }
         ensures agrees { (work : Work) → MediaAgree D.Disk work 0 media.old p node.old → MediaAgree D.Disk work 0 media.new p node.new }
         ensures disk { media.new.log.disk ≡ media.old.log.disk }
+        ensures tells { D.tells media.new.log.disk ≡ D.tells media.old.log.disk }
     {
         self.write_mtr();
         log_mtr(&self.mtr, media, shared, node, p);
@@ -163,6 +164,7 @@ impl Desk {
         ensures log { IsOpenLog p self.new.llsn media.new.log }
         ensures agrees { (work : Work) → MediaAgree D.Disk work 0 media.old p node.old → MediaAgree D.Disk work 0 media.new p node.new }
         ensures disk { media.new.log.disk ≡ media.old.log.disk }
+        ensures tells { D.tells media.new.log.disk ≡ D.tells media.old.log.disk }
     {
         self.mtr.llsn = self.llsn + 1;
         self.mtr.records.clear();

@@ -45,6 +45,7 @@ impl<D: Disk> Media<D> {
         ensures last { self.new.log.tail.last ≡ self.old.log.tail.last }
         ensures room { OnOk result (MTR_ROOM ≤ room_of self.new.log.tail) }
         ensures counts { Counts result (D.faults self.old.log.disk) (D.faults self.new.log.disk) }
+        ensures tells { D.tells self.new.log.disk ≡ D.tells self.old.log.disk }
     {
         if !self.unforced {
             return Ok(());
@@ -72,6 +73,7 @@ impl<D: Disk> Media<D> {
         ensures closed { OnErr result (self.new.log.tail.live ≡ false) }
         ensures room { OnOk result (MTR_ROOM ≤ room_of self.new.log.tail) }
         ensures counts { Counts result (D.faults self.old.log.disk) (D.faults self.new.log.disk) }
+        ensures tells { D.tells self.new.log.disk ≡ D.tells self.old.log.disk }
     {
         if self.log.room() < MTR_ROOM {
             return self.force(shared, node, p);

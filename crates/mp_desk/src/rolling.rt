@@ -69,6 +69,7 @@ impl Desk {
         ensures down { (work : Work) → MediaAgree D.Disk work 0 media.old p node.old → result ≡ Err backs.Failed
             → MediaAgree D.Disk work p media.new p node.new }
         ensures counted { D.faults media.old.log.disk ≤ D.faults media.new.log.disk }
+        ensures tells { D.tells media.new.log.disk ≡ D.tells media.old.log.disk }
     {
         let first = *restored;
         for i in first..formers.len() {
@@ -113,6 +114,7 @@ impl Desk {
         ensures down { (work : Work) → MediaAgree D.Disk work 0 media.old p node.old → result ≡ Err backs.Failed
             → MediaAgree D.Disk work p media.new p node.new }
         ensures counted { D.faults media.old.log.disk ≤ D.faults media.new.log.disk }
+        ensures tells { D.tells media.new.log.disk ≡ D.tells media.old.log.disk }
     {
         if let Err(_failed) = self.have_room(media, shared, node, p) {
             return Err(BackHalt::Failed);
@@ -148,6 +150,7 @@ impl Desk {
         ensures open { OnOk result (IsOpenLog p self.new.llsn media.new.log) }
         ensures closed { OnErr result (media.new.log.tail.live ≡ false) }
         ensures counts { Counts result (D.faults media.old.log.disk) (D.faults media.new.log.disk) }
+        ensures tells { D.tells media.new.log.disk ≡ D.tells media.old.log.disk }
     {
         if self.pool.free() < 64 {
             return self.let_go(media, shared, node, p);

@@ -193,6 +193,7 @@ impl Desk {
         ensures failed { result ≡ Err halts.Failed
             → (media.new.log.tail.live ≡ false) × Rose (D.faults media.old.log.disk) (D.faults media.new.log.disk) }
         ensures counted { D.faults media.old.log.disk ≤ D.faults media.new.log.disk }
+        ensures tells { D.tells media.new.log.disk ≡ D.tells media.old.log.disk }
     {
         let former = match self.replaced(shared, node, p, key, steps) {
             Ok(former) => former,

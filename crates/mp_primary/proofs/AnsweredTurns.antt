@@ -36,7 +36,7 @@ abbrev pub entry_of : Answer → Trace → Entry
 entry_of answer trace = record { answer = Some answer; trace = trace }
 
 -- one answer more
-answers_more : (entries : List Entry) (answer : Answer) (trace : Trace) → answers_in (entries ++ entry_of answer trace ∷ []) ≡ answers_in entries ++ answer ∷ []
+pub answers_more : (entries : List Entry) (answer : Answer) (trace : Trace) → answers_in (entries ++ entry_of answer trace ∷ []) ≡ answers_in entries ++ answer ∷ []
 answers_more [] answer trace = refl
 answers_more (e ∷ entries) answer trace = go e.answer refl (answers_more entries answer trace)
   where

@@ -21,7 +21,7 @@ use Rattle.mp_core.specs.CoreExtends.{CoreExtends}
 use Rattle.mp_book.specs.declared.book.Book.{Book}
 use Rattle.mp_book.specs.declared.session.Session.{Session}
 use Rattle.mp_book.specs.declared.stage.Stage.{Stage}
-use Rattle.mp_book.specs.declared.stage.Stage.TheVariants.{Closed, Leaving}
+use Rattle.mp_book.specs.declared.stage.Stage.TheVariants.{Closed, Open, Refused, Leaving, Skipping, Outside}
 use Rattle.mp_book.specs.declared.stage.Task.TheVariants.{Unprinted}
 use Rattle.mp_book.specs.Stages.{next_line, task_of, task_by, task_left, trx_of_stage}
 use Rattle.mp_book.specs.Answered.{execution_above, NoneShowsDown, WaitsStand}
@@ -33,10 +33,11 @@ use Rattle.mp_shared.specs.Nodes.{Run, NodeView, MayTake, Reached}
 use Rattle.mp_trx_fusion.specs.Calls.{with_trx}
 use Rattle.mp_buffer_fusion.proofs.Kept.{set_here}
 use Rattle.mp_primary.specs.Primaries.{PrimaryView, StandsWith}
-use Rattle.mp_primary.specs.Turns.{IsSessionOf, TakesTurn, ComesTo, has_nothing_left, no_task_in, IsTakenBack}
+use Rattle.mp_primary.specs.Turns.{IsSessionOf, IsInTurns, MayTakeTurn, TakesTurn, ComesTo, has_nothing_left, no_task_in, IsTakenBack}
 use Rattle.mp_primary.specs.GoingOn.{GoesBackOf, CountsBack, IsAllBack, MayReplyBack, IsReplyBack, ForgetsWaits, ClosesSession}
 use Rattle.mp_primary.proofs.FreedSlots.{Freeing, may_free, freeing, freed_stands, freed_agrees}
 use Rattle.mp_primary.proofs.BackTurns.{none_down, stood_at, may_reply, may_answer, answered_back, unprinted_turn}
+use Rattle.mp_primary.proofs.StillInTurns.{refused_in, leaving_in}
 
 -- a statement that writes does so with a verb
 pub writes_by : (o : Option Target) (r : Option WriteVerb) (verb : WriteVerb) → MatchOption o (r ≡ None) (λ target. r ≡ Some target.verb) → r ≡ Some verb → (key : ℕ) × (o ≡ Some (record { verb = verb; key = key }))
@@ -44,6 +45,15 @@ writes_by None r verb is some = absurd cc
 writes_by (Some target) r verb is some =
     let same : target.verb ≡ verb = cc in
     (target.key, ap (λ (v : WriteVerb). Some (record { verb = v; key = target.key })) same)
+
+-- a session whose rows are put back in a turn is in turns
+reply_in : (stage : Stage) (line : Line) (reply : Reply) → IsReplyBack stage line reply → IsInTurns stage
+reply_in Closed line reply h = absurd h
+reply_in (Open trx) line reply h = absurd h
+reply_in (Refused trx refusal) line reply h = refused_in trx refusal
+reply_in (Leaving trx) line reply h = leaving_in trx
+reply_in Skipping line reply h = absurd h
+reply_in (Outside trx) line reply h = absurd h
 
 -- a session that is closed, and then waits for nobody
 pub closes : (old mid new : Book) (number : ℕ) (s : Session) → SetsSession old mid number (record s { stage = Closed }) → ForgetsWaits mid new number (record s { stage = Closed }) → ClosesSession old new number s
@@ -97,6 +107,10 @@ module _ {D : Type 0} where
       let sets = counts.1 s found in
       ap (λ (l : List Session). slice_get l number) sets.sessions ∙ set_here old.book.sessions.items number (record s { restored = counts.0 }) (slice_get_within old.book.sessions.items number s found)
 
+  -- it may take a turn where it might
+  pub counted_may : (old new : PrimaryView D) (number : ℕ) (s : Session) → IsSessionOf old number s → (counts : (count : ℕ) × CountsBack old new number count) → IsInTurns s.stage → MayTakeTurn new number
+  counted_may old new number s found counts inside = record { session = record s { restored = counts.0 }; found = counted_there old new number s found counts; inside = inside }
+
   -- it has the room that it had
   pub counted_room : (old new : PrimaryView D) (number : ℕ) (s : Session) → IsSessionOf old number s → (counts : (count : ℕ) × CountsBack old new number count) → HasRoom old.book number → HasRoom new.book number
   counted_room old new number s found counts room =
@@ -142,7 +156,7 @@ module _ {D : Type 0} (g : Ghosts D) (run : Run) (inside old : PrimaryView D) (v
           → IsAnswered inside.book book number s line reply (stage_after s.stage line.stmt reply) s.formers.items s.restored → IsBook inside.work.lines inside.work.sessions inside.number book
           → TakesTurn g run old (record inside { book = book }) n after (Some number) turns.Answered
       answered_inside line next room reply replies book answered books =
-          let comes : ComesTo g run old n number s line = record { stands = stands; next = next; room = room } in
+          let comes : ComesTo g run old n number s line = record { stands = stands; next = next; inside = reply_in s.stage line reply replies; room = room } in
           subst (λ (v : PrimaryView D). TakesTurn g run v (record inside { book = book }) n after (Some number) turns.Answered) view
           (answered_back g run inside n after number s line (subst (λ (v : PrimaryView D). ComesTo g run v n number s line) (sym view) comes) trx up_in freed reply replies book answered books)
 

@@ -47,6 +47,7 @@ use Rattle.mp_primary.specs.GoingOn.{GoesBackOf, MayReplyBack, refused_as, IsRep
 use Rattle.mp_primary.proofs.OpenSessions.{one_of}
 use Rattle.mp_primary.proofs.AnsweredTurns.{calm, entry_of, AnswersWell, goes_on_answered, line_found}
 use Rattle.mp_primary.proofs.FreedSlots.{Freeing}
+use Rattle.mp_primary.proofs.StillInTurns.{stage_in, closed_in, stage_after_in, set_may}
 
 -- ---- the reply
 
@@ -251,6 +252,9 @@ module _ {D : Type 0} (g : Ghosts D) (run : Run) (pr : PrimaryView D) (n after :
     cause = tt;
     down = inl refl;
     faults = omega arith;
+    tells = refl;
+    may_go_on = set_may new number pr.book.sessions.items s is.after found is.sessions
+        (stage_in is.after.stage (stage_after s.stage line.stmt reply) is.goes.stage_is (stage_after_in s.stage line.stmt reply comes.inside));
     begins = λ a view more so. absurd (is_plain.no_begin view (its_reply a more ∙ so));
     draws = λ a cts more so. absurd (none_some cts (sym is_plain.no_stamp ∙ ap cts_of (its_reply a more) ∙ so));
     skips = λ a more so. up;
@@ -293,6 +297,9 @@ module _ {D : Type 0} (g : Ghosts D) (run : Run) (pr : PrimaryView D) (n after :
     cause = tt;
     down = inl refl;
     faults = omega arith;
+    tells = refl;
+    may_go_on = set_may (record pr { book = book }) number pr.book.sessions.items s closes.after found closes.sets.sessions
+        (stage_in closes.after.stage Closed (ap (λ (v : Session). v.stage) closes.rest) closed_in);
     begins = λ a view more. absurd (no_answer a more);
     draws = λ a cts more. absurd (no_answer a more);
     skips = λ a more. absurd (no_answer a more);

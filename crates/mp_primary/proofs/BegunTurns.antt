@@ -58,6 +58,7 @@ use Rattle.mp_primary.specs.Primaries.{PrimaryView, PrimaryAgreesIn, PrimaryAgre
 use Rattle.mp_primary.specs.Turns.{Adds, no_task_in, has_nothing_left, ComesTo, GoesOnBy, TakesTurn, TellsDown}
 use Rattle.mp_primary.proofs.OpenSessions.{one_of}
 use Rattle.mp_primary.proofs.QuietTurns.{quiet, same_waits}
+use Rattle.mp_primary.proofs.StillInTurns.{stage_in, open_in, set_may, comes_may}
 use Rattle.mp_primary.proofs.AnsweredTurns.{AnswersWell, goes_on_answered, calm, found_here, line_found}
 use Rattle.mp_primary.proofs.PlainTurns.{one_answer, within, answered_not_done, answered_not_stopped, false_not_true, some_not_none}
 use Rattle.mp_primary.proofs.BeginPlaced.{name_by, name_at, is_begin, is_named, its_trx, next_trx, version_fresh}
@@ -122,7 +123,7 @@ module _ {D : Type 0} (g : Ghosts D) (run : Run) (old : PrimaryView D) (before :
   busy = ap no_task_in comes.next.found ∙ ap (λ (o : Option Line). is_no_task (task_by o s.stage)) comes.next.next
 
   pub slot_turn : (wait : NotYet) → wait ≡ no_slot_for old.number → next_slot before old.number ≡ None → TakesTurn g run old old before before (Some number) (turns.Waiting (Word wait))
-  slot_turn wait is none = quiet g run old before comes.stands (Some number) (turns.Waiting (Word wait)) refl (same_waits g old number) (inr (inl (is, none)))
+  slot_turn wait is none = quiet g run old before comes.stands (Some number) (comes_may g run old before number s line comes) (turns.Waiting (Word wait)) refl (same_waits g old number) (inr (inl (is, none)))
       ((λ e. absurd (waiting_not_done wait e)), (λ still nothing. absurd (false_not_true (sym busy ∙ nothing))))
       ((λ by e. absurd (waiting_not_stopped wait by e)), (λ down. absurd (down up)))
 
@@ -276,6 +277,8 @@ module _ {D : Type 0} (g : Ghosts D) (run : Run) (old : PrimaryView D) (before :
         cause = tt;
         down = inl refl;
         faults = omega arith;
+        tells = refl;
+        may_go_on = set_may new number old.book.sessions.items s is.after found is.sessions (stage_in is.after.stage (Open b) is.goes.stage_is (open_in b));
         begins = λ a view added so.
             let is_view : b.view ≡ view = began_is b.view view (its_reply a added ∙ so) in
             (subst (Knows before old.number) is_view knows, λ all. sym is_view ∙ exact all);

@@ -58,8 +58,9 @@ module _ {D : Type 0} (g : Ghosts D) (run : Run) (old view now : PrimaryView D) 
     pub cleared_by : Moves HasLetGo view.number node after → desk ≡ record (view.desk) { pool = [] }
         → ((w : Work) → MediaAgree g w 0 view.media view.number node → MediaAgree g w 0 media view.number after) → media.unforced ≡ false
         → IsOpenLog view.number desk.llsn media.log → g.faults view.media.log.disk ≤ g.faults media.log.disk
+        → g.tells media.log.disk ≡ g.tells view.media.log.disk
         → HasClearedDesk g run old (record view { desk = desk; media = media }) before after trace
-    cleared_by gone emptied agrees unforced is_open faults =
+    cleared_by gone emptied agrees unforced is_open faults told =
         let here : Moves HasLetGo old.number node after = subst (λ (k : ℕ). Moves HasLetGo k node after) number_is gone in
         record {
           work = record {
@@ -72,6 +73,7 @@ module _ {D : Type 0} (g : Ghosts D) (run : Run) (old view now : PrimaryView D) 
             did = moves_both old.number (λ q r. Did q r trace) HasLetGo (λ q r. Did q r trace)
                 (did_and_gone trace) before node after inside.did here;
             faults = (let first = inside.faults in omega (arith, first, faults));
+            tells = told ∙ inside.tells;
           };
           empty = ap (λ (d : Desk). d.pool) emptied;
           forced = unforced;
@@ -88,8 +90,9 @@ module _ {D : Type 0} (g : Ghosts D) (run : Run) (old view now : PrimaryView D) 
         → ((w : Work) → MediaAgree g w 0 view.media view.number node → MediaAgree g w view.number media view.number after)
         → media.log.tail.live ≡ false
         → g.faults view.media.log.disk ≤ g.faults media.log.disk → Rose (g.faults view.media.log.disk) (g.faults media.log.disk)
+        → g.tells media.log.disk ≡ g.tells view.media.log.disk
         → HasGoneDown g run old (record view { desk = desk; media = media; down = view.number }) before after trace
-    down_by same_desk still agrees closed faults rose = record {
+    down_by same_desk still agrees closed faults rose told = record {
       rest = ap (λ (v : PrimaryView D). record v { desk = desk; media = media; down = v.number }) inside.rest;
       up = inside.up;
       desk = subst (λ (k : ℕ). IsAtDesk run desk k after) number_is at;
@@ -99,6 +102,7 @@ module _ {D : Type 0} (g : Ghosts D) (run : Run) (old view now : PrimaryView D) 
       did = subst (λ (x : NodeView). Moves (λ q r. Did q r trace) old.number before x) (sym still) inside.did;
       rose = rose_since rose;
       faults = (let first = inside.faults in omega (arith, first, faults));
+      tells = told ∙ inside.tells;
     }
       where
         rose_since : Rose (g.faults view.media.log.disk) (g.faults media.log.disk)

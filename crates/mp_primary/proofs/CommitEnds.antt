@@ -140,12 +140,13 @@ module _ {D : Type 0} (g : Ghosts D) (run : Run) (old : PrimaryView D) (before :
           };
       media = trx_media old.number before after (with_end trx.id None) 1 is q has more g old.work 0 old.media stands.desk.part media_before;
       faults = omega arith;
+      tells = refl;
       rose = inl refl;
       wrote = none;
     }
 
   module _ (desk : Desk) (media : Media D) (after : NodeView) (at : IsAtDesk run desk old.number after) (own : desk.mtr.node ≡ old.number) (faults : g.faults old.media.log.disk ≤ g.faults media.log.disk)
-      (wrote : (s : Session) → IsSessionOf old session s → s.formers.items ≢ []) where
+      (told : g.tells media.log.disk ≡ g.tells old.media.log.disk) (wrote : (s : Session) → IsSessionOf old session s → s.formers.items ≢ []) where
     -- it is published, and all pages are let go
     pub published_ends : (cts : ℕ) (mid : NodeView) → HoldsPart mid old.number → Moves (IsPublished trx cts) old.number before mid → Moves HasLetGo old.number mid after → MakesLater old.number before mid
         → IsOpenLog old.number desk.llsn media.log → desk.pool ≡ [] → media.unforced ≡ false → MediaAgree g old.work 0 media old.number after
@@ -167,6 +168,7 @@ module _ {D : Type 0} (g : Ghosts D) (run : Run) (old : PrimaryView D) (before :
       };
       media = agree;
       faults = faults;
+      tells = told;
       rose = inl refl;
       wrote = wrote;
     }
@@ -188,6 +190,7 @@ module _ {D : Type 0} (g : Ghosts D) (run : Run) (old : PrimaryView D) (before :
         ready = λ zero. absurd (not_nobody zero);
         media = down;
         faults = faults;
+        tells = told;
         rose = inr rose;
         wrote = wrote;
       }
@@ -203,6 +206,7 @@ module _ {D : Type 0} (g : Ghosts D) (run : Run) (old : PrimaryView D) (before :
         ready = λ zero. absurd (not_nobody zero);
         media = down;
         faults = faults;
+        tells = told;
         rose = inr rose;
         wrote = wrote;
       }

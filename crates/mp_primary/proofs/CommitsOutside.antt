@@ -22,7 +22,7 @@ use Rattle.mp_log.specs.Logs.{mtrs_of}
 use Rattle.mp_outside.specs.declared.disks.Disk.{Ghosts}
 use Rattle.mp_outside.specs.Faults.{Rose}
 use Rattle.mp_shared.specs.Nodes.{Run, NodeView}
-use Rattle.mp_buffer_fusion.proofs.Kept.{set_here}
+use Rattle.mp_buffer_fusion.proofs.Kept.{set_here, set_else}
 use Rattle.mp_buffer_fusion.proofs.Visiting.{one_part}
 use Rattle.mp_supports.specs.Supports.{Trace}
 use Rattle.mp_supports.specs.Kept.{Entry, answers_in}
@@ -162,7 +162,7 @@ module _ {D : Type 0} (g : Ghosts D) (run : Run) (old now : PrimaryView D) (book
       goes_down (ends.Unknown cts) = inr (refl, some)
       goes_down ends.Stopped = inr (refl, some)
 
-  pub calls_outside : CallsOutside g run old new before after
+  pub calls_outside : CallsOutside g run old new before after number
   calls_outside = record {
     stands = record { primary = primary; desk = e.desk; agrees = (stands.agrees.0 ++ silent_entry trace ∷ [], goes stands.agrees.0 stands.agrees.1) };
     number = refl;
@@ -170,7 +170,9 @@ module _ {D : Type 0} (g : Ghosts D) (run : Run) (old now : PrimaryView D) (book
     answers = answers_same;
     went = moves_as old.number (EndsInPart trx end) CoreExtends (λ x y h. went_at_end trx x y end h) before after e.ended;
     goes_on = λ entries agrees. (silent_entry trace ∷ [], (refl, tt), goes entries agrees);
+    others = λ other ne. ap (λ (l : List Session). slice_get l other) sets.sessions ∙ set_else old.book.sessions.items number other next (λ same. ne (sym same));
     faults = e.faults;
+    tells = e.tells;
   }
 
   here : slice_get book.sessions.items number ≡ Some next
@@ -206,9 +208,9 @@ module _ {D : Type 0} (g : Ghosts D) (run : Run) (old now : PrimaryView D) (book
   book_old : IsBook old.work.lines old.work.sessions old.number book
   book_old = books old.work.lines old.work.sessions old.number (subst (IsBook old.work.lines old.work.sessions old.number) (sym old_book) stands.primary.book)
 
-  pub calls_outside_inside : CallsOutside g run old (record now { book = book }) before after
+  pub calls_outside_inside : CallsOutside g run old (record now { book = book }) before after number
   calls_outside_inside =
-      subst (λ (v : PrimaryView D). CallsOutside g run old (record v { book = book }) before after) (sym e.rest)
+      subst (λ (v : PrimaryView D). CallsOutside g run old (record v { book = book }) before after number) (sym e.rest)
       (calls_outside g run old now book before after number trx end stands up e s has.1 has.2 set_old book_old)
 
   -- the session has one open transaction

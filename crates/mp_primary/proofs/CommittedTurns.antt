@@ -55,6 +55,7 @@ use Rattle.mp_primary.proofs.OpenSessions.{one_of}
 use Rattle.mp_primary.proofs.AnsweredTurns.{entry_of, AnswersWell, goes_on_answered, found_here, line_found}
 use Rattle.mp_primary.proofs.PlainTurns.{one_answer, answered_not_done, answered_not_stopped, false_not_true, some_not_none}
 use Rattle.mp_primary.proofs.OpenTrx.{open_part, open_has, open_calm, opened, its_node}
+use Rattle.mp_primary.proofs.StillInTurns.{stage_in, stage_after_in, set_may}
 use Rattle.mp_primary.proofs.CommitSides.{trace_at_end, did_at_end, went_at_end, not_nobody, part_then, sides_then, made_later}
 
 -- ---- by how the commit ended
@@ -298,6 +299,9 @@ module _ {D : Type 0} (g : Ghosts D) (run : Run) (old now : PrimaryView D) (book
     cause = tt;
     down = by_down end e.rose;
     faults = e.faults;
+    tells = e.tells;
+    may_go_on = set_may new number old.book.sessions.items s is.after next.found is.sessions
+        (stage_in is.after.stage (stage_after s.stage line.stmt (reply_at_end down end)) is.goes.stage_is (stage_after_in s.stage line.stmt (reply_at_end down end) comes.comes.inside));
     begins = λ a view more so. absurd (no_begin_told down view end (its_reply a more ∙ so));
     draws = λ a cts more so. let told = sym (stamp_told down end) ∙ ap cts_of (its_reply a more) ∙ so in (above cts told, exact cts told);
     skips = λ a more so. absurd (no_skip_told down end (its_reply a more ∙ so));

@@ -105,7 +105,7 @@ module _ {D : Type 0} (g : Ghosts D) (inside old : PrimaryView D) (view : inside
       | inr none ↦ absurd none
     ]
 
-    module _ (desk : Desk) (media : Media D) (n : NodeView) (at : IsAtDesk run desk inside.number n) (own : desk.mtr.node ≡ inside.number) (counted : g.faults inside.media.log.disk ≤ g.faults media.log.disk) where
+    module _ (desk : Desk) (media : Media D) (n : NodeView) (at : IsAtDesk run desk inside.number n) (own : desk.mtr.node ≡ inside.number) (counted : g.faults inside.media.log.disk ≤ g.faults media.log.disk) (told : g.tells media.log.disk ≡ g.tells inside.media.log.disk) where
       in_later : Moves CoreExtends inside.number b n → (r : CorePart) → part_in n.parts inside.number ≡ Some r → CoreExtends finish.0 r
       in_later goes r there = moved CoreExtends inside.number b n goes finish.0 r finish.1 there
 
@@ -137,5 +137,5 @@ module _ {D : Type 0} (g : Ghosts D) (inside old : PrimaryView D) (view : inside
           → ((work : Work) → MediaAgree g work 0 inside.media inside.number b → MediaAgree g work 0 media inside.number n ⊎ ((result ≡ Err halts.Failed) × MediaAgree g work inside.number media inside.number n))
           → AfterWrite g run inside (record inside { desk = desk; media = media }) before n number trx verbs.Copy to result
       copy_ends result wrote kept cause opened still fresh failing agrees =
-          after_write g run inside before b n number trx (Copy source to) its verbs.Copy to copy_writes quiet desk media at own counted value (found.leaf ∷ []) given valued read_before
+          after_write g run inside before b n number trx (Copy source to) its verbs.Copy to copy_writes quiet desk media at own counted told value (found.leaf ∷ []) given valued read_before
           result wrote kept cause opened still fresh failing (agrees inside.work copy_work.media)

@@ -23,7 +23,10 @@ use Rattle.mp_shared.specs.Nodes.{Run, first_node}
 use Rattle.mp_supports.specs.Work.{Work}
 use Rattle.mp_supports.specs.Supports.{SupportsWaits}
 use Rattle.mp_supports.specs.Agreement.{IsOpenAs, HasMadeUndo, RefusalSupported, rows_left, rows_left_by}
+use Rattle.mp_book.proofs.Items.{stands_there}
 use Rattle.mp_primary.specs.Primaries.{PrimaryView, IsPrimary, IsFirstLog, PrimaryAgrees, PrimaryAgreesIn}
+use Rattle.mp_primary.specs.Turns.{MayTakeTurn}
+use Rattle.mp_primary.proofs.SmallPrimaries.{closed_not_outside}
 use Rattle.mp_primary.proofs.OpenSessions.{one_of, waits_ended}
 use Rattle.mp_primary.proofs.NamePlaces.{place_in}
 
@@ -111,3 +114,10 @@ first_agrees_by g pr work is number_lines starts none few llsn undo first forced
     (subst (λ (w : Work). IsFirstLog g w pr.number pr.media.log) (sym is) first) forced run node
     (subst (λ (w : Work). run.opening.trx.base ≡ w.base) (sym is) base)
     (subst (λ (w : Work). run.opening.trx.begins ≡ length (begin_names w.lines)) (sym is) begins)
+
+-- a turn may be taken for each of its sessions
+pub first_may : {D : Type 0} (pr : PrimaryView D) (number_lines : ℕ → List Line) → ((k : ℕ) (s : Session) → slice_get pr.book.sessions.items k ≡ Some s → StartsAs k (number_lines k) s) → length pr.book.sessions.items ≡ 65
+    → (number : ℕ) → number < 65 → MayTakeTurn pr number
+first_may pr number_lines starts whole number below =
+    let has = stands_there pr.book.sessions.items number (omega (arith, whole, below)) in
+    record { session = has.0; found = has.1; inside = λ trx e. closed_not_outside trx (sym (starts number has.0 has.1).stage ∙ e) }

@@ -136,7 +136,7 @@ module _ {D : Type 0} (g : Ghosts D) (run : Run) (inside old : PrimaryView D) (v
     -- ---- what its ends leave
 
     module _ (desk : Desk) (media : Media D) (n1 : NodeView) (k : ℕ) (mid then_in : PrimaryView D) (counts : CountsBack (record inside { desk = desk; media = media }) mid number k) (rest : mid ≡ record inside { desk = desk; media = media; book = mid.book }) (view_then : then_in ≡ mid)
-        (at : IsAtDesk run desk inside.number n1) (own : desk.mtr.node ≡ inside.number) (back : Moves (PutsBackRows id formers x.restored k) inside.number n n1) (counted : g.faults inside.media.log.disk ≤ g.faults media.log.disk) where
+        (at : IsAtDesk run desk inside.number n1) (own : desk.mtr.node ≡ inside.number) (back : Moves (PutsBackRows id formers x.restored k) inside.number n n1) (counted : g.faults inside.media.log.disk ≤ g.faults media.log.disk) (told : g.tells media.log.disk ≡ g.tells inside.media.log.disk) where
       then_is : then_in ≡ record inside { desk = desk; media = media; book = then_in.book }
       then_is = view_then ∙ rest ∙ ap (λ (b : Book). record inside { desk = desk; media = media; book = b }) (sym (ap (λ (v : PrimaryView D). v.book) view_then))
 
@@ -163,12 +163,12 @@ module _ {D : Type 0} (g : Ghosts D) (run : Run) (inside old : PrimaryView D) (v
 
       exit : (d : Desk) (m : Media D) (down : ℕ) (n2 : NodeView) → IsAtDesk run d inside.number n2 → d.mtr.node ≡ inside.number → Moves (PutsBackRows trx.id s.formers.items s.restored k) inside.number n n2 → MediaAgree g inside.work down m inside.number n2
           → (down ≡ 0 → IsOpenLog inside.number d.llsn m.log × (d.pool ≡ []) × (m.unforced ≡ false) × ((r : CorePart) → part_in n2.parts inside.number ≡ Some r → (page : ℕ) → held_at r.pages.locks page ≡ No))
-          → (down ≡ 0) ⊎ ((down ≡ inside.number) × (down ≢ 0) × Rose (g.faults inside.media.log.disk) (g.faults m.log.disk)) → g.faults inside.media.log.disk ≤ g.faults m.log.disk
+          → (down ≡ 0) ⊎ ((down ≡ inside.number) × (down ≢ 0) × Rose (g.faults inside.media.log.disk) (g.faults m.log.disk)) → g.faults inside.media.log.disk ≤ g.faults m.log.disk → g.tells m.log.disk ≡ g.tells inside.media.log.disk
           → GoesOnQuietly g run old (record then_in { desk = d; media = m; down = down }) n n2 number
-      exit d m down n2 at2 own2 rows2 agree2 open2 fell2 faults2 =
+      exit d m down n2 at2 own2 rows2 agree2 open2 fell2 faults2 told2 =
           subst (λ (v : PrimaryView D). GoesOnQuietly g run old v n n2 number) (sym (ap (λ (v : PrimaryView D). record v { desk = d; media = m; down = down }) then_is))
           (subst (λ (v : PrimaryView D). GoesOnQuietly g run v (record inside { book = then_in.book; desk = d; media = m; down = down }) n n2 number) view
-          (back_quietly g run inside n n2 number s trx stands_in up_in back_in k then_in.book d m down (sets_any s back_in.found) at2 own2 rows2 agree2 open2 fell2 faults2))
+          (back_quietly g run inside n n2 number s trx stands_in up_in back_in k then_in.book d m down (sets_any s back_in.found) at2 own2 rows2 agree2 open2 fell2 faults2 told2))
 
       number_some : inside.number ≢ 0
       number_some = some_number n1 inside.number at.part
@@ -179,7 +179,7 @@ module _ {D : Type 0} (g : Ghosts D) (run : Run) (inside old : PrimaryView D) (v
           subst (λ (m : Media D). GoesOnQuietly g run old (record then_in { media = m; down = then_in.number }) n n1 number) (sym media_is)
           (subst (λ (d : Desk). GoesOnQuietly g run old (record then_in { desk = d; media = media; down = then_in.number }) n n1 number) (sym desk_is)
           (subst (λ (j : ℕ). GoesOnQuietly g run old (record then_in { desk = desk; media = media; down = j }) n n1 number) (sym number_is)
-          (exit desk media inside.number n1 at own rows_moved agree (λ z. absurd (number_some z)) (inr (refl, number_some, rose)) counted)))
+          (exit desk media inside.number n1 at own rows_moved agree (λ z. absurd (number_some z)) (inr (refl, number_some, rose)) counted told)))
 
       pub failed_leaves : Rose (g.faults inside.media.log.disk) (g.faults media.log.disk) → (then_in.number ≡ old.number) × (then_in.number ≢ 0) × Rose (g.faults old.media.log.disk) (g.faults then_in.media.log.disk)
       failed_leaves rose = (
@@ -201,7 +201,7 @@ module _ {D : Type 0} (g : Ghosts D) (run : Run) (inside old : PrimaryView D) (v
         pub agrees_then : MediaAgreeSomehow g then_in.media then_in.number n1
         agrees_then = (inside.work, agree_then)
 
-        module _ (d : Desk) (m : Media D) (n2 : NodeView) (at2 : IsAtDesk run d then_in.number n2) (no_fall : g.faults then_in.media.log.disk ≤ g.faults m.log.disk) where
+        module _ (d : Desk) (m : Media D) (n2 : NodeView) (at2 : IsAtDesk run d then_in.number n2) (no_fall : g.faults then_in.media.log.disk ≤ g.faults m.log.disk) (told_then : g.tells m.log.disk ≡ g.tells then_in.media.log.disk) where
           at_in : IsAtDesk run d inside.number n2
           at_in = subst (λ (j : ℕ). IsAtDesk run d j n2) number_is at2
 
@@ -210,6 +210,9 @@ module _ {D : Type 0} (g : Ghosts D) (run : Run) (inside old : PrimaryView D) (v
 
           faults_all : g.faults inside.media.log.disk ≤ g.faults m.log.disk
           faults_all = let one = faults_then in omega (arith, one, no_fall)
+
+          told_all : g.tells m.log.disk ≡ g.tells inside.media.log.disk
+          told_all = told_then ∙ ap (λ (x : Media D). g.tells x.log.disk) media_is ∙ told
 
           -- the disk failed then
           module _ (same : (d ≡ then_in.desk) × (n2 ≡ n1)) (rose : Rose (g.faults then_in.media.log.disk) (g.faults m.log.disk)) where
@@ -220,7 +223,7 @@ module _ {D : Type 0} (g : Ghosts D) (run : Run) (inside old : PrimaryView D) (v
             refused_quietly down =
                 subst (λ (j : ℕ). GoesOnQuietly g run old (record then_in { desk = d; media = m; down = j }) n n2 number) (sym number_is)
                 (exit d m inside.number n2 at_in (ap (λ (x : Desk). x.mtr.node) (same.0 ∙ desk_is) ∙ own) (subst (λ (x : NodeView). Moves (PutsBackRows trx.id s.formers.items s.restored k) inside.number n x) (sym same.1) rows_moved)
-                (subst (λ (j : ℕ). MediaAgree g inside.work j m j n2) number_is down) (λ z. absurd (number_some z)) (inr (refl, number_some, rose_all)) faults_all)
+                (subst (λ (j : ℕ). MediaAgree g inside.work j m j n2) number_is down) (λ z. absurd (number_some z)) (inr (refl, number_some, rose_all)) faults_all told_all)
 
             pub refused_leaves : (then_in.number ≡ old.number) × (then_in.number ≢ 0) × Rose (g.faults old.media.log.disk) (g.faults m.log.disk)
             refused_leaves = (
@@ -245,7 +248,7 @@ module _ {D : Type 0} (g : Ghosts D) (run : Run) (inside old : PrimaryView D) (v
                 subst (λ (j : ℕ). GoesOnQuietly g run old (record then_in { desk = d; media = m; down = j }) n n2 number) (sym down_is)
                 (exit d m 0 n2 at_in (ap (λ (x : Desk). x.mtr.node) emptied ∙ ap (λ (x : Desk). x.mtr.node) desk_is ∙ own) rows_gone
                 (subst (λ (j : ℕ). MediaAgree g inside.work 0 m j n2) number_is agree2)
-                (λ z. (subst (λ (j : ℕ). IsOpenLog j d.llsn m.log) number_is open2, ap (λ (x : Desk). x.pool) emptied, forced2, idle)) (inl refl) faults_all)
+                (λ z. (subst (λ (j : ℕ). IsOpenLog j d.llsn m.log) number_is open2, ap (λ (x : Desk). x.pool) emptied, forced2, idle)) (inl refl) faults_all told_all)
               where
                 idle : (r : CorePart) → part_in n2.parts inside.number ≡ Some r → (page : ℕ) → held_at r.pages.locks page ≡ No
                 idle r there page =

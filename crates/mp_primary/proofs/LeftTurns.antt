@@ -25,6 +25,7 @@ use Rattle.mp_primary.proofs.OpenSessions.{one_of}
 use Rattle.mp_primary.proofs.AnsweredTurns.{calm}
 use Rattle.mp_primary.proofs.SameSessions.{StandsAsBefore, here, next_on, same_stands, same_turn}
 use Rattle.mp_primary.proofs.RoomedTurns.{left}
+use Rattle.mp_primary.proofs.StillInTurns.{leaving_in}
 
 leaving_not_outside : (trx : Begun) (other : Option Begun) → Leaving trx ≡ Outside other → ⊥
 leaving_not_outside trx other e = cc
@@ -59,6 +60,7 @@ module _ {D : Type 0} (g : Ghosts D) (run : Run) where
       left_comes = record {
         stands = same_stands g old book number tries.session after as_before run n is_book tries.comes.stands;
         next = next_on g old book number tries.session after as_before tries.line tries.comes.next;
+        inside = leaving_in trx;
         room = record {
           answer = subst (λ (a : Items Answer). 0 < a.spare) (sym set.answers) tries.comes.room.answer;
           in_session = λ x there.

@@ -1,4 +1,5 @@
 pub mod BegunByAnswers
+pub mod StillInTurns
 pub mod QuietTurns
 pub mod OpenSessions
 pub mod AnsweredTurns
@@ -48,4 +49,6 @@ pub mod TakenBack
 pub mod ClearedDesks
 pub mod WriteStops
 pub mod CommitsOutside
+pub mod AllAnswered
+pub mod AddedByCount
 pub mod StandsBeside

@@ -67,6 +67,7 @@ quiet_work g run old now before n trace h quiet = record {
   media = h.media;
   did = moves_as old.number StaysQuiet (λ q r. Did q r no_trace) did_quiet before n quiet;
   faults = h.faults;
+  tells = h.tells;
 }
 
 module _ {D : Type 0} (g : Ghosts D) (run : Run) (old : PrimaryView D) (before n : NodeView) (stands : StandsWith g run old before)
@@ -90,6 +91,7 @@ module _ {D : Type 0} (g : Ghosts D) (run : Run) (old : PrimaryView D) (before n
     media = looked_media;
     did = did;
     faults = omega arith;
+    tells = refl;
   }
 
   pub looked_nothing : IsAtWork g run old (record old { desk = desk }) before n no_trace

@@ -21,7 +21,7 @@ use Rattle.mp_book.specs.Books.{IsBook, SetsSession}
 use Rattle.mp_outside.specs.declared.disks.Disk.{Ghosts}
 use Rattle.mp_shared.specs.Nodes.{Run, NodeView, MayTake, Reached}
 use Rattle.mp_trx_fusion.specs.Calls.{with_trx}
-use Rattle.mp_buffer_fusion.proofs.Kept.{set_here}
+use Rattle.mp_buffer_fusion.proofs.Kept.{set_here, set_else}
 use Rattle.mp_supports.specs.Supports.{no_trace}
 use Rattle.mp_supports.specs.Kept.{Entry, Did}
 use Rattle.mp_desk.specs.declared.halts.BackHalt.{BackHalt}
@@ -49,7 +49,7 @@ module _ {D : Type 0} (g : Ghosts D) (run : Run) where
   quiet_goes old mid before n number h = moves_as old.number (λ q r. Did q r no_trace) CoreExtends did_extends before n h.did
 
   -- two quiet steps, one after the other
-  pub calls_quietly : (old mid new : PrimaryView D) (before n after : NodeView) (number : ℕ) → GoesOnQuietly g run old mid before n number → GoesOnQuietly g run mid new n after number → CallsOutside g run old new before after
+  pub calls_quietly : (old mid new : PrimaryView D) (before n after : NodeView) (number : ℕ) → GoesOnQuietly g run old mid before n number → GoesOnQuietly g run mid new n after number → CallsOutside g run old new before after number
   calls_quietly old mid new before n after number one two = record {
     stands = two.stands;
     number = two.number ∙ one.number;
@@ -57,20 +57,25 @@ module _ {D : Type 0} (g : Ghosts D) (run : Run) where
     answers = two.answers ∙ one.answers;
     went = goes_both old.number before n after (quiet_goes old mid before n number one) (subst (λ (k : ℕ). Moves CoreExtends k n after) one.number (quiet_goes mid new n after number two));
     goes_on = λ entries agreed. ([], tt, λ q has. subst (λ (l : List Entry). PrimaryAgrees g new l q) (sym (append-nil entries)) (two.goes_on entries (one.goes_on entries agreed) q has));
+    others = λ other ne. two.others other (λ same. ne (sym same)) ∙ one.others other (λ same. ne (sym same));
     faults = let first = one.faults in let second = two.faults in omega (arith, first, second);
+    tells = two.tells ∙ one.tells;
   }
 
   -- and a last one
-  pub calls_then : (old mid new : PrimaryView D) (before n after : NodeView) → CallsOutside g run old mid before n → StandsWith g run new after → new.number ≡ mid.number → new.work ≡ mid.work → new.book.answers.items ≡ mid.book.answers.items
-      → Moves CoreExtends mid.number n after → ((entries : List Entry) → PrimaryAgreesIn g mid entries n → PrimaryAgreesIn g new entries after) → new.media ≡ mid.media → CallsOutside g run old new before after
-  calls_then old mid new before n after one stands number work answers went goes media = record {
+  pub calls_then : (old mid new : PrimaryView D) (before n after : NodeView) (number : ℕ) → CallsOutside g run old mid before n number → StandsWith g run new after → new.number ≡ mid.number → new.work ≡ mid.work → new.book.answers.items ≡ mid.book.answers.items
+      → Moves CoreExtends mid.number n after → ((entries : List Entry) → PrimaryAgreesIn g mid entries n → PrimaryAgreesIn g new entries after) → new.media ≡ mid.media
+      → ((other : ℕ) → number ≢ other → slice_get new.book.sessions.items other ≡ slice_get mid.book.sessions.items other) → CallsOutside g run old new before after number
+  calls_then old mid new before n after session one stands number work answers went goes media others = record {
     stands = stands;
     number = number ∙ one.number;
     work = work ∙ one.work;
     answers = answers ∙ one.answers;
     went = goes_both old.number before n after one.went (subst (λ (k : ℕ). Moves CoreExtends k n after) one.number went);
     goes_on = λ entries agreed. let x = one.goes_on entries agreed in (x.0, x.1, goes (entries ++ x.0) x.2);
+    others = λ other ne. others other ne ∙ one.others other ne;
     faults = let first = one.faults in let same = ap (λ m. g.faults m.log.disk) media in omega (arith, first, same);
+    tells = ap (λ m. g.tells m.log.disk) media ∙ one.tells;
   }
 
 -- the session whose transaction is open still, with what it keeps
@@ -123,7 +128,7 @@ module _ {D : Type 0} (g : Ghosts D) (run : Run) (inside old : PrimaryView D) (v
 
     -- and its rows are put back
     module _ (mid : PrimaryView D) (n1 : NodeView) (quiet : GoesOnQuietly g run (record inside { book = book }) mid n n1 number) (counts : (count : ℕ) × CountsBack (record inside { book = book }) mid number count) where
-      pub out_calls : CallsOutside g run old mid n n1
+      pub out_calls : CallsOutside g run old mid n n1 number
       out_calls = calls_quietly g run old (record inside { book = book }) mid n n n1 number out_quietly quiet
 
       abbrev done : Session
@@ -169,12 +174,13 @@ module _ {D : Type 0} (g : Ghosts D) (run : Run) (inside old : PrimaryView D) (v
           answers_last : last.answers.items ≡ then_in.book.answers.items
           answers_last = ap (λ (l : Listed Answer). l.items) sets_last.answers
 
-          pub freed_calls : CallsOutside g run old (record then_in { book = last }) n after
+          pub freed_calls : CallsOutside g run old (record then_in { book = last }) n after number
           freed_calls =
-              calls_then g run old then_in (record then_in { book = last }) n n1 after (subst (λ (v : PrimaryView D). CallsOutside g run old v n n1) (sym view_then) out_calls)
+              calls_then g run old then_in (record then_in { book = last }) n n1 after number (subst (λ (v : PrimaryView D). CallsOutside g run old v n n1 number) (sym view_then) out_calls)
               (freed_stands g run then_in n1 after number done trx stands_then up_then freed (record done { stage = Outside None }) refl (inr (refl, refl)) last answers_last sets_last.sessions (keeps stands_then.primary.book))
               refl refl answers_last freed.goes
               (freed_agrees g run then_in n1 after number done trx stands_then up_then freed (record done { stage = Outside None }) refl (inr (refl, refl)) last answers_last sets_last.sessions (keeps stands_then.primary.book)) refl
+              (λ other ne. ap (λ (l : List Session). slice_get l other) sets_last.sessions ∙ set_else then_in.book.sessions.items number other (record done { stage = Outside None }) (λ same. ne (sym same)))
 
           pub freed_ended : (b : Begun) → HasOpenStill old number b → RollsBackAs g old (record then_in { book = last }) n after number b (Ok tt)
           freed_ended b has =

@@ -39,10 +39,11 @@ use Rattle.mp_supports.proofs.Places.{at_place}
 use Rattle.mp_supports.proofs.BoundSteps.{bounds_answered}
 use Rattle.mp_desk.specs.Desks.{IsAtDesk}
 use Rattle.mp_primary.specs.Primaries.{PrimaryView, IsPrimary, AreSessions, AreWaitsSupported, PrimaryAgreesIn, PrimaryAgrees, StandsWith}
-use Rattle.mp_primary.specs.Turns.{IsSessionOf, Adds, GoesOnBy, TakesTurn, ComesTo, has_nothing_left, no_task_in, HasNoStatement, NamesWait, TellsDown}
+use Rattle.mp_primary.specs.Turns.{IsSessionOf, IsInTurns, Adds, GoesOnBy, TakesTurn, ComesTo, has_nothing_left, no_task_in, HasNoStatement, NamesWait, TellsDown}
 use Rattle.mp_desk.proofs.Moving.{looked_none, goes_none}
 use Rattle.mp_primary.proofs.OpenSessions.{one_of, waits_ended, sessions_set, waits_set, opens_set}
 use Rattle.mp_primary.proofs.AnsweredTurns.{calm, AnswersWell, goes_on_answered, line_found}
+use Rattle.mp_primary.proofs.StillInTurns.{stage_in, skipped_in, set_may}
 
 -- the answer that was added is that one
 pub one_answer : (items : List Answer) (a b : Answer) → items ++ a ∷ [] ≡ items ++ b ∷ [] → a ≡ b
@@ -126,8 +127,8 @@ module _ {D : Type 0} (g : Ghosts D) (run : Run) (old : PrimaryView D) (book : B
       goes : (entries : List Entry) → PrimaryAgreesIn g old entries n → GoesOnBy g old new n n (Some number) entries turns.Answered
       goes = goes_on_answered g old new n n number s line reply stage formers restored comes.next is refl refl no_trace has.0 has.1 well tt
 
-      pub answered_turn : ((view : ℕ) → reply ≢ Began view) → cts_of reply ≡ None → (reply ≡ Skipped → old.down ≡ 0) → TellsDown old.down reply → TakesTurn g run old new n n (Some number) turns.Answered
-      answered_turn no_begin no_stamp skips stops = record {
+      pub answered_turn : ((view : ℕ) → reply ≢ Began view) → cts_of reply ≡ None → (reply ≡ Skipped → old.down ≡ 0) → TellsDown old.down reply → IsInTurns stage → TakesTurn g run old new n n (Some number) turns.Answered
+      answered_turn no_begin no_stamp skips stops inside = record {
         stands = record {
           primary = record { book = books; names = comes.stands.primary.names; own = comes.stands.primary.own; up = comes.stands.primary.up; down = comes.stands.primary.down };
           desk = comes.stands.desk;
@@ -142,6 +143,8 @@ module _ {D : Type 0} (g : Ghosts D) (run : Run) (old : PrimaryView D) (book : B
         cause = tt;
         down = inl refl;
         faults = omega arith;
+        tells = refl;
+        may_go_on = set_may new number old.book.sessions.items s is.after found is.sessions (stage_in is.after.stage stage is.goes.stage_is inside);
         begins = λ a view more so. absurd (no_begin view (its_reply a more ∙ so));
         draws = λ a cts more so. absurd (none_some_nat cts (sym no_stamp ∙ ap cts_of (its_reply a more) ∙ so));
         skips = λ a more so. skips (its_reply a more ∙ so);
@@ -193,7 +196,7 @@ module _ {D : Type 0} (g : Ghosts D) (run : Run) (old : PrimaryView D) (book : B
       (λ still. refl)
       (λ still q there opens. subst (λ (o : Option Begun). IfSome o (IsOpenAs old.work q 0 is.after)) (sym (ap trx_of_stage is.goes.stage_is ∙ gone)) tt)
       (λ still q there. subst (λ (t : Stage). RefusalSupported old.work q 0 t (next_line is.after)) (sym is.goes.stage_is) (no_refusal old.work q (open_after line.stmt) (next_line is.after)))
-      (λ view e. absurd (skipped_not_began view e)) refl (λ e. up) up
+      (λ view e. absurd (skipped_not_began view e)) refl (λ e. up) up (skipped_in (open_after line.stmt))
     where
       none_begun : (trx : Begun) → ◌≡◌ {A = Option Begun} None (Some trx) → ⊥
       none_begun trx e = cc
@@ -214,7 +217,7 @@ module _ {D : Type 0} (g : Ghosts D) (run : Run) (old : PrimaryView D) (book : B
       (λ up. absurd (some (sym down ∙ up)))
       (λ up. absurd (some (sym down ∙ up)))
       (λ up. absurd (some (sym down ∙ up)))
-      (λ view e. absurd (stopped_not_began view e)) refl (λ e. absurd (stopped_not_skipped e)) (sym down, some)
+      (λ view e. absurd (stopped_not_began view e)) refl (λ e. absurd (stopped_not_skipped e)) (sym down, some) comes.inside
     where
       same_rows : (trx : Begun) → trx_of_stage s.stage ≡ Some trx → rows_left is.after ≤ rows_left s
       same_rows trx its =

@@ -91,7 +91,7 @@ module _ {D : Type 0} (g : Ghosts D) (inside old : PrimaryView D) (view : inside
   pub put_agrees : MediaAgreeSomehow g inside.media inside.number before
   put_agrees = (inside.work, put_media)
 
-  module _ (verb : WriteVerb) (key : ℕ) (value : Option (List ℕ)) (is : IsPutStatement stmt verb key value) (desk : Desk) (media : Media D) (n : NodeView) (at : IsAtDesk run desk inside.number n) (own : desk.mtr.node ≡ inside.number) (counted : g.faults inside.media.log.disk ≤ g.faults media.log.disk) where
+  module _ (verb : WriteVerb) (key : ℕ) (value : Option (List ℕ)) (is : IsPutStatement stmt verb key value) (desk : Desk) (media : Media D) (n : NodeView) (at : IsAtDesk run desk inside.number n) (own : desk.mtr.node ≡ inside.number) (counted : g.faults inside.media.log.disk ≤ g.faults media.log.disk) (told : g.tells media.log.disk ≡ g.tells inside.media.log.disk) where
     pub put_ends : (result : Result Row WriteHalt)
         → IfOk result (λ former. (x : Placed Mtr) × Moves (MakesThen x) inside.number before n × IsMadeAfter before x × ((r : CorePart) → part_in n.parts inside.number ≡ Some r → PutsValue r trx key value former x.mtr))
         → OnErr result (Moves StaysQuiet inside.number before n) → IfErr result (HaltsWrite inside.number trx key before n) → OnOk result (IsOpenLog inside.number desk.llsn media.log)
@@ -102,7 +102,7 @@ module _ {D : Type 0} (g : Ghosts D) (inside old : PrimaryView D) (view : inside
         → AfterWrite g run inside (record inside { desk = desk; media = media }) before n number trx verb key result
     put_ends result wrote quiet cause opened still fresh failing agrees =
         let t = tries_inside in
-        after_write g run inside before before n number trx stmt t verb key (put_writes t.line stmt verb key value t.stmt_is is) (moves_quiet_none inside.number before) desk media at own counted value []
+        after_write g run inside before before n number trx stmt t verb key (put_writes t.line stmt verb key value t.stmt_is is) (moves_quiet_none inside.number before) desk media at own counted told value []
         (λ goes q r has there. (tt, tt))
         (λ goes r there. subst (λ (x : Stmt). IsValueWritten r [] trx.id trx.view x value) (sym t.stmt_is) (put_value r trx stmt verb key value is))
         (λ x made. tt)

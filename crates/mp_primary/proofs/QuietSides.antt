@@ -149,6 +149,7 @@ module _ {D : Type 0} (g : Ghosts D) (run : Run) (old : PrimaryView D) (before n
     sides = λ entries q r has there was. subst (HasSides old.work r) (sym same) (quiet_sides entries q r has there was);
     others = λ other ne. ap (λ (k : Book). slice_get k.sessions.items other) same;
     named = names cause no_writer;
+    may_go_on = record { session = s; found = ap (λ (k : Book). slice_get k.sessions.items number) same ∙ comes.next.found; inside = comes.inside };
     waits = waits;
   }
     where

@@ -17,7 +17,7 @@ use Rattle.mp_outside.specs.declared.disks.Disk.{Ghosts}
 use Rattle.mp_shared.specs.Nodes.{Run, NodeView}
 use Rattle.mp_supports.specs.Kept.{Entry}
 use Rattle.mp_primary.specs.Primaries.{PrimaryView, PrimaryAgreesIn, PrimaryAgrees, StandsWith}
-use Rattle.mp_primary.specs.Turns.{IsSessionOf, no_task_in, has_nothing_left, HasNoStatement, Adds, AddsNext, IfWaiting, WaitsFor, NamesWait, IsLeftAfter, GoesOnBy, TakesTurn}
+use Rattle.mp_primary.specs.Turns.{IsSessionOf, MayTakeTurn, no_task_in, has_nothing_left, HasNoStatement, Adds, AddsNext, IfWaiting, WaitsFor, NamesWait, IsLeftAfter, GoesOnBy, TakesTurn}
 use Rattle.mp_desk.proofs.Moving.{goes_none}
 
 one_session : (o : Option Session) (s after : Session) → o ≡ Some s → o ≡ Some after → after ≡ s
@@ -58,7 +58,7 @@ module _ {D : Type 0} (g : Ghosts D) where
   pub same_waits : (pr : PrimaryView D) (number : ℕ) (s after : Session) → IsSessionOf pr number s → IsSessionOf pr number after → after.waits.items ≡ s.waits.items
   same_waits pr number s after a b = ap (λ (x : Session). x.waits.items) (one_session (slice_get pr.book.sessions.items number) s after a b)
 
-  module _ (run : Run) (pr : PrimaryView D) (n : NodeView) (stands : StandsWith g run pr n) (session : Option ℕ) where
+  module _ (run : Run) (pr : PrimaryView D) (n : NodeView) (stands : StandsWith g run pr n) (session : Option ℕ) (may : IfSome session (MayTakeTurn pr)) where
     -- the primary goes on as it was
     goes_nowhere : (turn : Turn) → AddsNext pr pr session [] turn → (entries : List Entry) → PrimaryAgreesIn g pr entries n → GoesOnBy g pr pr n n session entries turn
     goes_nowhere turn adds entries agrees = record {
@@ -83,6 +83,8 @@ module _ {D : Type 0} (g : Ghosts D) where
       cause = cause;
       down = inl refl;
       faults = omega arith;
+      tells = refl;
+      may_go_on = may;
       begins = λ a view more. absurd (no_answer pr a more);
       draws = λ a cts more. absurd (no_answer pr a more);
       skips = λ a more. absurd (no_answer pr a more);
@@ -114,7 +116,7 @@ module _ {D : Type 0} (g : Ghosts D) where
 
   -- up, with something left, in a turn of no session
   pub resting_turn : (run : Run) (pr : PrimaryView D) (n : NodeView) → StandsWith g run pr n → pr.down ≡ 0 → have_no_task pr.book.sessions.items ≡ false → TakesTurn g run pr pr n n None turns.Answered
-  resting_turn run pr n stands up some = quiet run pr n stands None turns.Answered refl tt tt
+  resting_turn run pr n stands up some = quiet run pr n stands None tt turns.Answered refl tt tt
       ((λ e. absurd (answered_not_done e)), (λ still left. absurd (true_not_false (have_no_task pr.book.sessions.items) left some)))
       ((λ by e. absurd (answered_not_stopped by e)), (λ down. absurd (down up)))
 

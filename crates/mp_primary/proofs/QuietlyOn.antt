@@ -35,7 +35,7 @@ use Rattle.mp_desk.proofs.BackSteps.{rose_later}
 use Rattle.mp_desk.proofs.Moving.{moves_as, moves_both, goes_both}
 use Rattle.mp_desk.proofs.TrxStepped.{DrewTheSame, tso_same, holds_all, knows_less_before}
 use Rattle.mp_primary.specs.Primaries.{PrimaryView, PrimaryAgreesIn, PrimaryAgrees, StandsWith}
-use Rattle.mp_primary.specs.Turns.{IsSessionOf, Adds, AddsAnswer, EndsUnprinted, AddsNext, IsLeftAfter, GoesOnBy, TakesTurn, has_nothing_left, HasNoStatement, NamesWait, IfWaiting, WaitsFor}
+use Rattle.mp_primary.specs.Turns.{IsSessionOf, MayTakeTurn, Adds, AddsAnswer, EndsUnprinted, AddsNext, IsLeftAfter, GoesOnBy, TakesTurn, has_nothing_left, HasNoStatement, NamesWait, IfWaiting, WaitsFor}
 use Rattle.mp_primary.specs.GoingOn.{GoesOnQuietly}
 use Rattle.mp_primary.proofs.OpenSessions.{one_of}
 
@@ -86,6 +86,7 @@ module _ {D : Type 0} (g : Ghosts D) where
     same = λ s found. let t = one.same s found in let u = two.same t.0 t.1 in (u.0, u.1, u.2 ∙ t.2, u.3 ∙ t.3);
     down = down_join old mid new one.number one.faults two.faults one.down two.down;
     faults = let first = one.faults in let second = two.faults in omega (arith, first, second);
+    tells = two.tells ∙ one.tells;
   }
 
 module _ {D : Type 0} (g : Ghosts D) (run : Run) (old mid : PrimaryView D) (before n : NodeView) (number : ℕ) (s : Session) (found : IsSessionOf old number s) (first : GoesOnQuietly g run old mid before n number) (held : HoldsPart before old.number) where
@@ -128,8 +129,8 @@ module _ {D : Type 0} (g : Ghosts D) (run : Run) (old mid : PrimaryView D) (befo
       let same : length (old.book.answers.items ++ a ∷ []) ≡ length old.book.answers.items = ap (λ (l : List Answer). length l) (sym more ∙ first.answers) in
       omega (arith, longer, same)
 
-  pub waiting_turn : mid.down ≡ 0 → has_nothing_left old (Some number) ≡ false → (wait : NotYet) → MetWait old.number before n wait → TakesTurn g run old mid before n (Some number) (turns.Waiting (Word wait))
-  waiting_turn up busy wait met = record {
+  pub waiting_turn : mid.down ≡ 0 → has_nothing_left old (Some number) ≡ false → (wait : NotYet) → MetWait old.number before n wait → MayTakeTurn mid number → TakesTurn g run old mid before n (Some number) (turns.Waiting (Word wait))
+  waiting_turn up busy wait met may = record {
     stands = first.stands;
     number = first.number;
     work = first.work;
@@ -145,6 +146,8 @@ module _ {D : Type 0} (g : Ghosts D) (run : Run) (old mid : PrimaryView D) (befo
     cause = inl met;
     down = first.down;
     faults = first.faults;
+    tells = first.tells;
+    may_go_on = may;
     begins = λ a view more. absurd (no_answer a more);
     draws = λ a cts more. absurd (no_answer a more);
     skips = λ a more. absurd (no_answer a more);
@@ -217,6 +220,8 @@ module _ {D : Type 0} (g : Ghosts D) (run : Run) (old mid : PrimaryView D) (befo
         cause = cause;
         down = down_join g old mid new first.number first.faults h.faults first.down h.down;
         faults = let one = first.faults in let two = h.faults in omega (arith, one, two);
+        tells = h.tells ∙ first.tells;
+        may_go_on = h.may_go_on;
         begins = λ a view more is.
             let told = h.begins a view (adds_mid a more) is in (
               λ q has. let now = goes.mine q has in let grew = newest_grows q.trx (now.0).trx now.2.trx in let le = told.0 now.0 (ap (part_in n.parts) first.number ∙ now.1) in omega (arith, grew, le),

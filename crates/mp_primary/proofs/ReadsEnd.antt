@@ -123,7 +123,7 @@ module _ {D : Type 0} (g : Ghosts D) (run : Run) (old : PrimaryView D) (before m
           left = tt;
           begins = λ view e. absurd (facts.not_began view e);
           draws = λ cts e. absurd (none_stamp cts (sym facts.no_stamp ∙ e));
-        })
+        }) comes.inside
 
   -- ---- a halt
 

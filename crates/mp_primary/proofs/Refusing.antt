@@ -48,6 +48,7 @@ use Rattle.mp_primary.specs.WriteTurns.{IsHeldUp, IsRightRefusal}
 use Rattle.mp_primary.proofs.LetGoQuietly.{moves_quiet_let_go}
 use Rattle.mp_primary.proofs.OpenSessions.{one_of, opens_set}
 use Rattle.mp_primary.proofs.QuietSides.{drew_more, still, quiet_opens}
+use Rattle.mp_primary.proofs.StillInTurns.{refused_in}
 use Rattle.mp_primary.proofs.ThenTurns.{then_turn}
 use Rattle.mp_primary.proofs.TurnEnds.{moved}
 
@@ -124,6 +125,7 @@ module _ {D : Type 0} (g : Ghosts D) (run : Run) (old : PrimaryView D) (before n
         agrees = (comes.stands.agrees.0, agrees comes.stands.agrees.0 comes.stands.agrees.1);
       };
       next = record { found = here; next = comes.next.next };
+      inside = refused_in trx refusal;
       room = record {
         answer = subst (λ (l : Listed Answer). 0 < l.spare) (sym sets.answers) comes.room.answer;
         in_session = λ x there. let same : refused ≡ x = one_of (slice_get book.sessions.items number) x refused there here in subst (λ (v : Session). (0 < v.formers.spare) × (0 < v.waits.spare)) same (comes.room.in_session s found);
@@ -134,7 +136,7 @@ module _ {D : Type 0} (g : Ghosts D) (run : Run) (old : PrimaryView D) (before n
         here = ap (λ (l : List Session). slice_get l number) sets.sessions ∙ set_here old.book.sessions.items number refused (slice_get_within old.book.sessions.items number s found)
 
     turn_then : (new : PrimaryView D) (after : NodeView) (turn : Turn) → TakesTurn g run mid new n after (Some number) turn → TakesTurn g run old new before after (Some number) turn
-    turn_then = then_turn g run old before n number s line comes quiet (Refused trx refusal) book sets mid refl agrees cleared.work.faults
+    turn_then = then_turn g run old before n number s line comes quiet (Refused trx refusal) book sets mid refl agrees cleared.work.faults cleared.work.tells
 
   -- the same of what the primary became
   module _ (cleared_view : PrimaryView D) (cleared : HasClearedDesk g run old cleared_view before n no_trace) where

@@ -122,4 +122,5 @@ module _ {D : Type 0} (g : Ghosts D) (run : Run) (pr : PrimaryView D) (n : NodeV
         );
     down = inl refl;
     faults = omega arith;
+    tells = refl;
   }

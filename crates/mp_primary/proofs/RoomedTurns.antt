@@ -1,4 +1,6 @@
 -- A turn before which room was made, or at whose begin its transaction was left, is a turn.
+use mathlib.Core.Logic.{dite}
+use native.Mathlib.Decide.{ℕ_discrete}
 use Rattle.std.proofs.Common.{◌≡◌, ◌≢◌, ℕ, List, slice_get, slice_set, Option, None, Some, IfSome, Result, Ok, Err, IfOk, OnErr, refl, sym, ap, subst, ◌∙◌}
 use Rattle.mp_model.specs.declared.waiting.Turn.{Turn}
 use Rattle.mp_script.specs.declared.statements.SessionOn.{SessionOn}
@@ -9,7 +11,7 @@ use Rattle.mp_core.specs.declared.part.CorePart.{CorePart}
 use Rattle.mp_book.specs.declared.book.Book.{Book}
 use Rattle.mp_book.specs.declared.session.Session.{Session}
 use Rattle.mp_book.specs.declared.stage.Stage.{Stage}
-use Rattle.mp_book.specs.declared.stage.Stage.TheVariants.{Open, Leaving, Outside}
+use Rattle.mp_book.specs.declared.stage.Stage.TheVariants.{Open, Leaving}
 use Rattle.mp_book.specs.Stages.{next_line, task_by, task_of, trx_of_stage}
 use Rattle.mp_book.specs.Through.{is_no_task}
 use Rattle.mp_book.specs.Books.{IsBook, SetsSession, HasSameSession, HasRoom}
@@ -17,11 +19,13 @@ use Rattle.mp_model.specs.declared.list.Items.{Items}
 use Rattle.mp_model.specs.declared.replies.Answer.{Answer}
 use Rattle.mp_outside.specs.declared.disks.Disk.{Ghosts}
 use Rattle.mp_shared.specs.Nodes.{Run, NodeView}
+use Rattle.mp_buffer_fusion.proofs.Kept.{set_else}
 use Rattle.mp_supports.specs.Work.{Work}
 use Rattle.mp_supports.specs.Kept.{Entry}
 use Rattle.mp_supports.specs.Agreement.{RefusalSupported}
 use Rattle.mp_primary.specs.Primaries.{PrimaryView, PrimaryAgreesIn, StandsWith}
-use Rattle.mp_primary.specs.Turns.{IsSessionOf, TakesTurn, ComesTo}
+use Rattle.mp_primary.specs.Turns.{IsSessionOf, IsInTurns, MayTakeTurn, TakesTurn, ComesTo}
+use Rattle.mp_primary.proofs.StillInTurns.{stage_in, found_in, set_may}
 use Rattle.mp_primary.proofs.SameSessions.{StandsAsBefore, same_in, same_stands, next_on, same_turn}
 
 -- room was made
@@ -82,6 +86,9 @@ module _ {D : Type 0} (g : Ghosts D) (run : Run) (inside old : PrimaryView D) (v
   as_before : StandsAsBefore inside.work inside.book book number s now_session
   as_before = roomed inside.work inside.book book number s found_there (same s found_there) answers
 
+  stage_same : now_session.stage ≡ s.stage
+  stage_same = ap (λ (v : Session). v.stage) (same s found_there).same.rest
+
   inside_stands : StandsWith g run inside n
   inside_stands = subst (λ (v : PrimaryView D). StandsWith g run v n) (sym view) stands
 
@@ -91,11 +98,10 @@ module _ {D : Type 0} (g : Ghosts D) (run : Run) (inside old : PrimaryView D) (v
   pub roomed_kept : (entries : List Entry) → PrimaryAgreesIn g old entries n → PrimaryAgreesIn g mid entries n
   roomed_kept entries agrees = same_in g inside book number s now_session as_before n entries (subst (λ (v : PrimaryView D). PrimaryAgreesIn g v entries n) (sym view) agrees)
 
-  pub roomed_comes : (line : Line) → next_line s ≡ Some line → HasRoom book number → ((trx : Option Begun) → s.stage ≢ Outside trx) → (x : Session) × ComesTo g run mid n number x line × ((trx : Option Begun) → x.stage ≢ Outside trx)
+  pub roomed_comes : (line : Line) → next_line s ≡ Some line → HasRoom book number → IsInTurns s.stage → (x : Session) × ComesTo g run mid n number x line
   roomed_comes line next room inside_turn = (
     now_session,
-    record { stands = roomed_stands; next = next_on g inside book number s now_session as_before line (record { found = found_there; next = next }); room = room },
-    λ trx outside. inside_turn trx (sym (ap (λ (v : Session). v.stage) (same s found_there).same.rest) ∙ outside),
+    record { stands = roomed_stands; next = next_on g inside book number s now_session as_before line (record { found = found_there; next = next }); inside = stage_in now_session.stage s.stage stage_same inside_turn; room = room },
   )
 
   pub roomed_turn : (new : PrimaryView D) (now : NodeView) (turn : Turn) → TakesTurn g run mid new n now (Some number) turn → TakesTurn g run old new n now (Some number) turn
@@ -109,3 +115,34 @@ module _ {D : Type 0} (g : Ghosts D) (run : Run) (inside old : PrimaryView D) (v
 
   pub roomed_still : (new : PrimaryView D) (now : NodeView) → (now ≡ n) × (new ≡ mid) → (entries : List Entry) → PrimaryAgreesIn g old entries n → PrimaryAgreesIn g new entries now
   roomed_still new now h entries agrees = subst (λ (v : PrimaryView D). PrimaryAgreesIn g v entries now) (sym h.1) (subst (λ (m : NodeView). PrimaryAgreesIn g mid entries m) (sym h.0) (roomed_kept entries agrees))
+
+  pub roomed_same : (new : PrimaryView D) (now : NodeView) → (now ≡ n) × (new ≡ mid)
+      → (new.media ≡ old.media) × (new.down ≡ old.down) × (new.number ≡ old.number) × (new.work ≡ old.work) × (new.book.answers.items ≡ old.book.answers.items)
+  roomed_same new now h = (
+    ap (λ (v : PrimaryView D). v.media) h.1 ∙ ap (λ (v : PrimaryView D). v.media) view,
+    ap (λ (v : PrimaryView D). v.down) h.1 ∙ ap (λ (v : PrimaryView D). v.down) view,
+    ap (λ (v : PrimaryView D). v.number) h.1 ∙ ap (λ (v : PrimaryView D). v.number) view,
+    ap (λ (v : PrimaryView D). v.work) h.1 ∙ ap (λ (v : PrimaryView D). v.work) view,
+    ap (λ (v : PrimaryView D). v.book.answers.items) h.1 ∙ answers ∙ ap (λ (v : PrimaryView D). v.book.answers.items) view,
+  )
+
+  -- each session that might take a turn may
+  pub roomed_may : (k : ℕ) → MayTakeTurn old k → MayTakeTurn mid k
+  roomed_may k may = dite (ℕ_discrete k number) here there
+    where
+      here : k ≡ number → MayTakeTurn mid k
+      here its =
+          let inside_turn = found_in old number s found (subst (λ (j : ℕ). MayTakeTurn old j) its may) in
+          subst (λ (j : ℕ). MayTakeTurn mid j) (sym its)
+          (set_may mid number inside.book.sessions.items s now_session found_there (same s found_there).sessions (stage_in now_session.stage s.stage stage_same inside_turn))
+
+      there : k ≢ number → MayTakeTurn mid k
+      there other = record {
+        session = may.session;
+        found = ap (λ (l : List Session). slice_get l k) (same s found_there).sessions ∙ set_else inside.book.sessions.items number k now_session other
+            ∙ ap (λ (v : PrimaryView D). slice_get v.book.sessions.items k) view ∙ may.found;
+        inside = may.inside;
+      }
+
+  pub roomed_sessions : (new : PrimaryView D) (now : NodeView) → (now ≡ n) × (new ≡ mid) → (k : ℕ) → MayTakeTurn old k → MayTakeTurn new k
+  roomed_sessions new now h k may = subst (λ (v : PrimaryView D). MayTakeTurn v k) (sym h.1) (roomed_may k may)

@@ -205,7 +205,7 @@ module _ {D : Type 0} (g : Ghosts D) (run : Run) (old : PrimaryView D) (before n
     (k : ℕ) (book : Book) (desk : Desk) (media : Media D) (down : ℕ) (sets : SetsSession old.book book number (record s { restored = k })) (at : IsAtDesk run desk old.number n) (own : desk.mtr.node ≡ old.number)
     (rows : Moves (PutsBackRows trx.id s.formers.items s.restored k) old.number before n) (agree : MediaAgree g old.work down media old.number n)
     (log_open : down ≡ 0 → IsOpenLog old.number desk.llsn media.log × (desk.pool ≡ []) × (media.unforced ≡ false) × ((r : CorePart) → part_in n.parts old.number ≡ Some r → (page : ℕ) → held_at r.pages.locks page ≡ No))
-    (fell : (down ≡ 0) ⊎ ((down ≡ old.number) × (down ≢ 0) × Rose (g.faults old.media.log.disk) (g.faults media.log.disk))) (faults : g.faults old.media.log.disk ≤ g.faults media.log.disk) where
+    (fell : (down ≡ 0) ⊎ ((down ≡ old.number) × (down ≢ 0) × Rose (g.faults old.media.log.disk) (g.faults media.log.disk))) (faults : g.faults old.media.log.disk ≤ g.faults media.log.disk) (tells : g.tells media.log.disk ≡ g.tells old.media.log.disk) where
   abbrev new : PrimaryView D
   new = record old { book = book; desk = desk; media = media; down = down }
 
@@ -278,4 +278,5 @@ module _ {D : Type 0} (g : Ghosts D) (run : Run) (old : PrimaryView D) (before n
         );
     down = ⊎_elim (λ z. inl (z ∙ sym up)) (λ f. inr (up, f.0, f.2)) fell;
     faults = faults;
+    tells = tells;
   }

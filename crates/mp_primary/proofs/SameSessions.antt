@@ -215,6 +215,8 @@ module _ {D : Type 0} (g : Ghosts D) (old : PrimaryView D) (book : Book) (number
       cause = cause_back turn h.cause;
       down = h.down;
       faults = h.faults;
+      tells = h.tells;
+      may_go_on = h.may_go_on;
       begins = λ a view more. h.begins a view (more ∙ ap (λ (l : List Answer). l ++ a ∷ []) (sym is.answers));
       draws = λ a cts more. h.draws a cts (more ∙ ap (λ (l : List Answer). l ++ a ∷ []) (sym is.answers));
       skips = λ a more. h.skips a (more ∙ ap (λ (l : List Answer). l ++ a ∷ []) (sym is.answers));

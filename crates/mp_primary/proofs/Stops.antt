@@ -198,7 +198,7 @@ module _ {D : Type 0} (g : Ghosts D) (run : Run) (old : PrimaryView D) (before n
         draws = λ cts e. absurd (none_some cts e);
         not_skipped = stopped_not_skipped;
         tells = (refl, some);
-      })
+      }) comes.inside
     where
       some : old.number ≢ 0
       some = not_zero old.number (held_part n old.number gone.desk.part).2.0

@@ -34,9 +34,10 @@ use Rattle.mp_desk.specs.Desks.{MetWait}
 use Rattle.mp_desk.proofs.BackSteps.{rose_later}
 use Rattle.mp_desk.proofs.Moving.{looked_none, moves_none, goes_none}
 use Rattle.mp_primary.specs.Primaries.{PrimaryView, StandsWith}
-use Rattle.mp_primary.specs.Turns.{IsSessionOf, TakesTurn, ComesTo, IsTakenBack, has_nothing_left, no_task_in, HasNoStatement}
+use Rattle.mp_primary.specs.Turns.{IsSessionOf, IsInTurns, MayTakeTurn, TakesTurn, ComesTo, IsTakenBack, has_nothing_left, no_task_in, HasNoStatement}
 use Rattle.mp_primary.specs.GoingOn.{CountsBack, ClosesSession, LeavesRows, GoesOnQuietly}
-use Rattle.mp_primary.proofs.BackEnds.{busy_by, counted_there, counted_room}
+use Rattle.mp_primary.proofs.StillInTurns.{closed_in, open_in, refused_in, leaving_in, skipping_in}
+use Rattle.mp_primary.proofs.BackEnds.{busy_by, counted_there, counted_may, counted_room}
 use Rattle.mp_primary.proofs.OpenSessions.{one_of}
 use Rattle.mp_primary.proofs.PlainTurns.{stopped_inside}
 use Rattle.mp_primary.proofs.QuietTurns.{stopped_turn}
@@ -57,6 +58,7 @@ module _ {D : Type 0} (g : Ghosts D) (run : Run) (old mid : PrimaryView D) (n n1
   comes_counted = record {
     stands = quiet.stands;
     next = record { found = counted_there old mid number s comes.next.found counts; next = comes.next.next };
+    inside = comes.inside;
     room = counted_room old mid number s comes.next.found counts comes.room;
   }
 
@@ -67,7 +69,7 @@ module _ {D : Type 0} (g : Ghosts D) (run : Run) (old mid : PrimaryView D) (n n1
   then_answered new after h = then_turn g run old mid n n1 number s comes.next.found quiet comes.stands.desk.part new after turns.Answered h busy answered_not_done tt
 
   pub then_waits : (wait : NotYet) → (mid.down ≡ 0) × MetWait old.number n n1 wait → TakesTurn g run old mid n n1 (Some number) (turns.Waiting (Word wait))
-  then_waits wait met = waiting_turn g run old mid n n1 number s comes.next.found quiet comes.stands.desk.part met.0 busy wait met.1
+  then_waits wait met = waiting_turn g run old mid n n1 number s comes.next.found quiet comes.stands.desk.part met.0 busy wait met.1 (counted_may old mid number s comes.next.found counts comes.inside)
 
   -- what the answer of a primary that went down asks
   module _ (inside : PrimaryView D) (view : inside ≡ mid) (by : ℕ) where
@@ -110,11 +112,11 @@ module _ {D : Type 0} (g : Ghosts D) (run : Run) (old mid : PrimaryView D) (n n1
       let same : x ≡ t.0 = one_of (slice_get mid.book.sessions.items number) t.0 x t.1 at in
       ap (λ (v : Session). next_line v) same ∙ t.2 ∙ unprinted_none (next_line s) s.stage task
 
-  pub leaving_waits : (wait : NotYet) → (mid.down ≡ 0) × MetWait old.number n n1 wait → TakesTurn g run old mid n n1 (Some number) (turns.Waiting (Word wait))
-  leaving_waits wait met = waiting_turn g run old mid n n1 number s found quiet stands.desk.part met.0 busy_leaving wait met.1
+  pub leaving_waits : (wait : NotYet) → (mid.down ≡ 0) × MetWait old.number n n1 wait → MayTakeTurn mid number → TakesTurn g run old mid n n1 (Some number) (turns.Waiting (Word wait))
+  leaving_waits wait met may = waiting_turn g run old mid n n1 number s found quiet stands.desk.part met.0 busy_leaving wait met.1 may
 
-  pub leaving_stops : (by : ℕ) → by ≡ mid.down → mid.down ≢ 0 → TakesTurn g run old mid n n1 (Some number) (turns.Stopped by)
-  leaving_stops by is down = then_turn g run old mid n n1 number s found quiet stands.desk.part mid n1 (turns.Stopped by) (stopped_turn g run mid n1 quiet.stands (Some number) by is (λ z. down (sym is ∙ z)) none_left) busy_leaving (stopped_not_done by) tt
+  pub leaving_stops : (by : ℕ) → by ≡ mid.down → mid.down ≢ 0 → MayTakeTurn mid number → TakesTurn g run old mid n n1 (Some number) (turns.Stopped by)
+  leaving_stops by is down may = then_turn g run old mid n n1 number s found quiet stands.desk.part mid n1 (turns.Stopped by) (stopped_turn g run mid n1 quiet.stands (Some number) may by is (λ z. down (sym is ∙ z)) none_left) busy_leaving (stopped_not_done by) tt
 
   pub leaving_ends : (new : PrimaryView D) (after : NodeView) → TakesTurn g run mid new n1 after (Some number) turns.Answered → TakesTurn g run old new n after (Some number) turns.Answered
   leaving_ends new after h = then_turn g run old mid n n1 number s found quiet stands.desk.part new after turns.Answered h busy_leaving answered_not_done tt
@@ -140,6 +142,18 @@ unprinted_line s task = unprinted_none (next_line s) s.stage task
 
 unprinted_left : (s : Session) → task_of s ≡ Unprinted → task_left s.stage ≡ Unprinted
 unprinted_left s task = sym (ap (λ (o : Option Line). task_by o s.stage) (unprinted_none (next_line s) s.stage task)) ∙ task
+
+left_in : (stage : Stage) → task_left stage ≡ Unprinted → IsInTurns stage
+left_in Closed left = closed_in
+left_in (Open b) left = open_in b
+left_in (Refused b refusal) left = refused_in b refusal
+left_in (Leaving b) left = leaving_in b
+left_in Skipping left = skipping_in
+left_in (Outside b) left = absurd cc
+
+-- a session whose transaction is to be rolled back unprinted may take a turn
+pub unprinted_may : {D : Type 0} (pr : PrimaryView D) (number : ℕ) (s : Session) → IsSessionOf pr number s → task_of s ≡ Unprinted → MayTakeTurn pr number
+unprinted_may pr number s found task = record { session = s; found = found; inside = left_in s.stage (unprinted_left s task) }
 
 left_skipping : (stage : Stage) → task_left stage ≡ Unprinted → trx_of_stage stage ≡ None → stage ≡ Skipping
 left_skipping Closed left none = absurd cc
@@ -204,6 +218,7 @@ still_quietly g run pr n number stands = record {
   same = λ s found. (s, found, refl, refl);
   down = inl refl;
   faults = omega arith;
+  tells = refl;
 }
 
 -- rows are left also as the turn's beginning sees it

@@ -206,9 +206,9 @@ module _ {D : Type 0} (g : Ghosts D) (run : Run) (old : PrimaryView D) (before b
       view_back : (view : ℕ) → (HoldsAll between → view ≡ tso_of between) → HoldsAll before → view ≡ tso_of before
       view_back view h all = h (holds_all old.number before between comes.stands.desk.part drew all) ∙ tso_same old.number before between comes.stands.desk.part drew
 
-      turn_of_mid : ((entries : List Entry) → PrimaryAgreesIn g old entries before → PrimaryAgreesIn g mid entries between) → g.faults old.media.log.disk ≤ g.faults media.log.disk
+      turn_of_mid : ((entries : List Entry) → PrimaryAgreesIn g old entries before → PrimaryAgreesIn g mid entries between) → g.faults old.media.log.disk ≤ g.faults media.log.disk → g.tells media.log.disk ≡ g.tells old.media.log.disk
           → (turn : Turn) → TakesTurn g run mid new between after (Some number) turn → TakesTurn g run old new before after (Some number) turn
-      turn_of_mid agrees faults turn h = record {
+      turn_of_mid agrees faults tells turn h = record {
         stands = h.stands;
         number = h.number;
         work = h.work;
@@ -219,6 +219,8 @@ module _ {D : Type 0} (g : Ghosts D) (run : Run) (old : PrimaryView D) (before b
         cause = cause_back turn h.cause;
         down = down_back faults h.down;
         faults = let more = h.faults in omega (arith, faults, more);
+        tells = h.tells ∙ tells;
+        may_go_on = h.may_go_on;
         begins = λ a view more so. let x = h.begins a view (adds_over a more) so in (knows_back view x.0, view_back view x.1);
         draws = λ a cts more so. let x = h.draws a cts (adds_over a more) so in (knows_less_before old.number cts before between goes x.0, exact_back cts 1 x.1);
         skips = λ a more. h.skips a (adds_over a more);
@@ -229,9 +231,9 @@ module _ {D : Type 0} (g : Ghosts D) (run : Run) (old : PrimaryView D) (before b
 
   -- the same of what a primary became
   pub then_turn : (mid : PrimaryView D) → mid ≡ record old { book = book; desk = mid.desk; media = mid.media } → ((entries : List Entry) → PrimaryAgreesIn g old entries before → PrimaryAgreesIn g mid entries between)
-      → g.faults old.media.log.disk ≤ g.faults mid.media.log.disk
+      → g.faults old.media.log.disk ≤ g.faults mid.media.log.disk → g.tells mid.media.log.disk ≡ g.tells old.media.log.disk
       → (new : PrimaryView D) (after : NodeView) (turn : Turn) → TakesTurn g run mid new between after (Some number) turn → TakesTurn g run old new before after (Some number) turn
-  then_turn mid rest agrees faults new after turn h =
+  then_turn mid rest agrees faults tells new after turn h =
       turn_of_mid mid.desk mid.media new after
-      (λ entries agreed. subst (λ (v : PrimaryView D). PrimaryAgreesIn g v entries between) rest (agrees entries agreed)) faults turn
+      (λ entries agreed. subst (λ (v : PrimaryView D). PrimaryAgreesIn g v entries between) rest (agrees entries agreed)) faults tells turn
       (subst (λ (v : PrimaryView D). TakesTurn g run v new between after (Some number) turn) rest h)

@@ -62,7 +62,7 @@ did_put trx x row pages q r h put writer no_back given since =
     did_with_pages q r (wrote_trace [] (mtr_of_put trx x)) pages (subst (λ (m : TrxMtr). Did q r (wrote_trace [] m)) its all) given since
 
 module _ {D : Type 0} (g : Ghosts D) (run : Run) (old : PrimaryView D) (before b n : NodeView) (number : ℕ) (trx : Begun) (stmt : Stmt) (tries : TriesAt g run old before number trx stmt) (verb : WriteVerb) (key : ℕ) (writes : WritesKey tries.line verb key) (quiet_b : Moves StaysQuiet old.number before b)
-    (desk : Desk) (media : Media D) (at : IsAtDesk run desk old.number n) (own : desk.mtr.node ≡ old.number) (counted : g.faults old.media.log.disk ≤ g.faults media.log.disk) where
+    (desk : Desk) (media : Media D) (at : IsAtDesk run desk old.number n) (own : desk.mtr.node ≡ old.number) (counted : g.faults old.media.log.disk ≤ g.faults media.log.disk) (told : g.tells media.log.disk ≡ g.tells old.media.log.disk) where
   abbrev now : PrimaryView D
   now = record old { desk = desk; media = media }
 
@@ -82,7 +82,7 @@ module _ {D : Type 0} (g : Ghosts D) (run : Run) (old : PrimaryView D) (before b
       let all = moves_quiet old.number before b n quiet_b quiet in
       record {
         tries = its_tries;
-        work = record { rest = refl; up = tries.up; desk = at; own = own; log = opened; media = agree; did = moves_as old.number StaysQuiet (λ q r. Did q r no_trace) did_quiet before n all; faults = counted };
+        work = record { rest = refl; up = tries.up; desk = at; own = own; log = opened; media = agree; did = moves_as old.number StaysQuiet (λ q r. Did q r no_trace) did_quiet before n all; faults = counted; tells = told };
         quiet = all;
       }
 
@@ -97,7 +97,7 @@ module _ {D : Type 0} (g : Ghosts D) (run : Run) (old : PrimaryView D) (before b
       record {
         tries = its_tries;
         rest = refl;
-        gone = record { rest = refl; up = tries.up; desk = at; own = own; closed = closed; media = agree; did = moves_as old.number StaysQuiet (λ q r. Did q r no_trace) did_quiet before n all; rose = rose; faults = counted };
+        gone = record { rest = refl; up = tries.up; desk = at; own = own; closed = closed; media = agree; did = moves_as old.number StaysQuiet (λ q r. Did q r no_trace) did_quiet before n all; rose = rose; faults = counted; tells = told };
         quiet = all;
       }
 
@@ -152,6 +152,7 @@ module _ {D : Type 0} (g : Ghosts D) (run : Run) (old : PrimaryView D) (before b
               mine = λ q has. let r = all.mine q has in let is = given (goes_then x made) q r.0 has r.1 in (r.0, r.1, did_put trx x p.row pages q r.0 r.2 p.put p.writer p.not_restored is.0 is.1);
             };
             faults = counted;
+            tells = told;
           };
           made = all;
           over = λ r there.

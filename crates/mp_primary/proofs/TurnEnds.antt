@@ -46,10 +46,11 @@ use Rattle.mp_desk.specs.Making.{HoldsPartOf}
 use Rattle.mp_desk.proofs.Moving.{moves_as}
 use Rattle.mp_desk.proofs.MediaMoved.{not_zero}
 use Rattle.mp_primary.specs.Primaries.{PrimaryView, IsPrimary, AreSessions, AreWaitsSupported, PrimaryAgreesIn, PrimaryAgrees}
-use Rattle.mp_primary.specs.Turns.{IsLeftAfter, GoesOnBy, TakesTurn, ComesTo, has_nothing_left, no_task_in, NamesWait, WaitsFor, TellsDown}
+use Rattle.mp_primary.specs.Turns.{IsInTurns, MayTakeTurn, IsLeftAfter, GoesOnBy, TakesTurn, ComesTo, has_nothing_left, no_task_in, NamesWait, WaitsFor, TellsDown}
 use Rattle.mp_primary.specs.AtWork.{HasClearedDesk, HasGoneDown}
 use Rattle.mp_primary.proofs.OpenSessions.{one_of, waits_ended}
 use Rattle.mp_primary.proofs.AnsweredTurns.{calm, entry_of, AnswersWell, goes_on_answered, line_found}
+use Rattle.mp_primary.proofs.StillInTurns.{stage_in, set_may}
 
 -- ---- small facts
 
@@ -146,6 +147,7 @@ module _ {D : Type 0} (g : Ghosts D) where
         → PrimaryAgrees g old entries q → HasSides old.work r new.book
     pub others : (other : ℕ) → Some number ≢ Some other → slice_get new.book.sessions.items other ≡ slice_get old.book.sessions.items other
     pub named : NamesWait old new number (turns.Waiting cause)
+    pub may_go_on : MayTakeTurn new number
     pub waits : WaitsFor old number before n cause
 
   module _ (run : Run) (old : PrimaryView D) (before n : NodeView) (number : ℕ) (s : Session) (line : Line)
@@ -214,7 +216,7 @@ module _ {D : Type 0} (g : Ghosts D) where
 
           module _ (reply : Reply) (stage : Stage) (formers : List Row) (restored : ℕ)
               (is : IsAnswered old.book book number s line reply stage formers restored)
-              (right : IsRightAnswer old before n line reply trace is.answer book) where
+              (right : IsRightAnswer old before n line reply trace is.answer book) (inside : IsInTurns stage) where
             well_up : (q : CorePart) → part_in before.parts old.number ≡ Some q → (entries : List Entry) (r : CorePart)
                 → PrimaryAgrees g old entries q → part_in n.parts old.number ≡ Some r
                 → AnswersWell g old (record old { book = book; desk = desk; media = media }) is.answer trace q r
@@ -275,6 +277,9 @@ module _ {D : Type 0} (g : Ghosts D) where
               cause = tt;
               down = inl refl;
               faults = cleared.work.faults;
+              tells = cleared.work.tells;
+              may_go_on = set_may (record old { book = book; desk = desk; media = media }) number old.book.sessions.items s is.after found is.sessions
+                  (stage_in is.after.stage stage is.goes.stage_is inside);
               begins = λ a view more so. right.begins view (its_reply a more ∙ so);
               draws = λ a cts more so. right.draws cts (ap cts_of (its_reply a more) ∙ so);
               skips = λ a more so. cleared.work.up;
@@ -346,6 +351,8 @@ module _ {D : Type 0} (g : Ghosts D) where
           cause = right.waits;
           down = inl refl;
           faults = cleared.work.faults;
+          tells = cleared.work.tells;
+          may_go_on = right.may_go_on;
           begins = λ a view more. absurd (none_added a more);
           draws = λ a cts more. absurd (none_added a more);
           skips = λ a more. absurd (none_added a more);
@@ -361,7 +368,7 @@ module _ {D : Type 0} (g : Ghosts D) where
           (record old { book = b; desk = desk; media = media; down = old.number }) before n trace)
           (reply : Reply) (stage : Stage) (formers : List Row) (restored : ℕ)
           (is : IsAnswered old.book book number s line reply stage formers restored)
-          (right : IsRightStop old before n line reply trace is.answer book) where
+          (right : IsRightStop old before n line reply trace is.answer book) (inside : IsInTurns stage) where
         some_number : old.number ≢ 0
         some_number = not_zero old.number (held_part n old.number gone.desk.part).2.0
 
@@ -447,6 +454,9 @@ module _ {D : Type 0} (g : Ghosts D) where
           cause = tt;
           down = inr (gone.up, refl, gone.rose);
           faults = gone.faults;
+          tells = gone.tells;
+          may_go_on = set_may (record old { book = book; desk = desk; media = media; down = old.number }) number old.book.sessions.items s is.after found is.sessions
+              (stage_in is.after.stage stage is.goes.stage_is inside);
           begins = λ a view more so. absurd (right.no_begin view (reply_down a more ∙ so));
           draws = λ a cts more so. right.draws cts (ap cts_of (reply_down a more) ∙ so);
           skips = λ a more so. absurd (right.not_skipped (reply_down a more ∙ so));
@@ -464,14 +474,14 @@ module _ {D : Type 0} (g : Ghosts D) where
       pub answered_up : (trace : Trace) → HasClearedDesk g run (record old { book = b }) mid before n trace
           → (reply : Reply) (stage : Stage) (formers : List Row) (restored : ℕ)
           (is : IsAnswered old.book book number s line reply stage formers restored)
-          → IsRightAnswer old before n line reply trace is.answer book
+          → IsRightAnswer old before n line reply trace is.answer book → IsInTurns stage
           → TakesTurn g run old (record mid { book = book }) before n (Some number) turns.Answered
-      answered_up trace cleared reply stage formers restored is right =
+      answered_up trace cleared reply stage formers restored is right inside =
           subst (λ (v : PrimaryView D). TakesTurn g run old (record v { book = book }) before n (Some number) turns.Answered)
           (sym cleared.work.rest)
           (turn_up b book mid.desk mid.media books trace
           (subst (λ (v : PrimaryView D). HasClearedDesk g run (record old { book = b }) v before n trace) cleared.work.rest cleared)
-          reply stage formers restored is right)
+          reply stage formers restored is right inside)
 
       pub waiting_up : HasClearedDesk g run (record old { book = b }) mid before n no_trace → (cause : Cause)
           → IsRightWait old before n number cause (record mid { book = book })
@@ -487,11 +497,11 @@ module _ {D : Type 0} (g : Ghosts D) where
       pub answered_down : (trace : Trace) → HasGoneDown g run (record old { book = b }) mid before n trace
           → (reply : Reply) (stage : Stage) (formers : List Row) (restored : ℕ)
           (is : IsAnswered old.book book number s line reply stage formers restored)
-          → IsRightStop old before n line reply trace is.answer book
+          → IsRightStop old before n line reply trace is.answer book → IsInTurns stage
           → TakesTurn g run old (record mid { book = book }) before n (Some number) turns.Answered
-      answered_down trace gone reply stage formers restored is right =
+      answered_down trace gone reply stage formers restored is right inside =
           subst (λ (v : PrimaryView D). TakesTurn g run old (record v { book = book }) before n (Some number) turns.Answered)
           (sym gone.rest)
           (turn_down b book mid.desk mid.media books trace
           (subst (λ (v : PrimaryView D). HasGoneDown g run (record old { book = b }) v before n trace) gone.rest gone) reply stage
-          formers restored is right)
+          formers restored is right inside)

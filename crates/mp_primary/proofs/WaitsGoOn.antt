@@ -47,6 +47,7 @@ use Rattle.mp_desk.proofs.Moving.{goes_both}
 use Rattle.mp_desk.proofs.SeenMore.{past_more}
 use Rattle.mp_primary.specs.Primaries.{PrimaryView, PrimaryAgrees}
 use Rattle.mp_primary.specs.Turns.{ComesTo, WaitsFor}
+use Rattle.mp_primary.proofs.StillInTurns.{stage_in, set_may}
 use Rattle.mp_primary.proofs.OpenSessions.{one_of, opens_set}
 use Rattle.mp_primary.proofs.QuietSides.{drew_more, still, quiet_opens}
 use Rattle.mp_primary.proofs.TurnEnds.{moved, HasSides, IsRightWait}
@@ -272,5 +273,7 @@ module _ {D : Type 0} (g : Ghosts D) (run : Run) (old : PrimaryView D) (before n
     named = λ x y a b.
         ap (λ (v : Session). v.waits.items) (one_of (slice_get book.sessions.items number) notes.after y here b) ∙ notes.waits
         ∙ ap (λ (v : Session). with_name name v.waits.items) (one_of (slice_get old.book.sessions.items number) x s a found);
+    may_go_on = set_may (record mid { book = book }) number old.book.sessions.items s notes.after found notes.sets.sessions
+        (stage_in notes.after.stage s.stage (ap (λ (v : Session). v.stage) notes.rest) comes.inside);
     waits = waits;
   }

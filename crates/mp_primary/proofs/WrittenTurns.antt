@@ -189,7 +189,7 @@ module _ {D : Type 0} (g : Ghosts D) (run : Run) (old now : PrimaryView D) (befo
           left = λ k q x at inside. put.later.above_made k q x at inside;
           begins = λ view e. absurd (not_began view e);
           draws = λ cts e. absurd (none_some cts e);
-        })
+        }) put.tries.comes.inside
       where
         not_began : (view : ℕ) → Wrote verb ≡ Began view → ⊥
         not_began view e = cc

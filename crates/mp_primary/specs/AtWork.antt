@@ -33,6 +33,7 @@ module _ {D : Type 0} (g : Ghosts D) where
     pub media : MediaAgree g old.work 0 now.media old.number n
     pub did : Moves (λ q r. Did q r trace) old.number before n
     pub faults : g.faults old.media.log.disk ≤ g.faults now.media.log.disk
+    pub tells : g.tells now.media.log.disk ≡ g.tells old.media.log.disk
 
   -- and it has let all pages go: its log is forced, no page is in a buffer, and it holds no lock
   pub record HasClearedDesk (run : Run) (old now : PrimaryView D) (before n : NodeView) (trace : Trace) : Type 0 where
@@ -53,6 +54,7 @@ module _ {D : Type 0} (g : Ghosts D) where
     pub did : Moves (λ q r. Did q r trace) old.number before n
     pub rose : Rose (g.faults old.media.log.disk) (g.faults now.media.log.disk)
     pub faults : g.faults old.media.log.disk ≤ g.faults now.media.log.disk
+    pub tells : g.tells now.media.log.disk ≡ g.tells old.media.log.disk
 
 -- A statement that is stopped began nothing, and stored nothing in a slot. It made no mtr; or, where it writes, one, and may then
 -- keep a row that it was the first to replace

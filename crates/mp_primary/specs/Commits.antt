@@ -84,5 +84,6 @@ module _ {D : Type 0} (g : Ghosts D) where
     pub ready : down_by_end old.number end ≡ 0 → IsReadyAgain new old.number after
     pub media : MediaAgree g old.work (down_by_end old.number end) new.media old.number after
     pub faults : g.faults old.media.log.disk ≤ g.faults new.media.log.disk
+    pub tells : g.tells new.media.log.disk ≡ g.tells old.media.log.disk
     pub rose : (down_by_end old.number end ≡ 0) ⊎ Rose (g.faults old.media.log.disk) (g.faults new.media.log.disk)
     pub wrote : (s : Session) → IsSessionOf old session s → TellsIfWrote s.formers.items end

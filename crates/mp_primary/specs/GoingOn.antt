@@ -26,7 +26,7 @@ use Rattle.mp_desk.specs.declared.halts.BackHalt.{BackHalt}
 use Rattle.mp_desk.specs.declared.halts.BackHalt.TheVariants as backs
 use Rattle.mp_desk.specs.Desks.{Moves, MetWait}
 use Rattle.mp_primary.specs.Primaries.{PrimaryView, PrimaryAgreesIn, StandsWith}
-use Rattle.mp_primary.specs.Turns.{IsSessionOf, ComesTo}
+use Rattle.mp_primary.specs.Turns.{IsSessionOf, MayTakeTurn, ComesTo}
 
 module _ {D : Type 0} where
   -- The session's transaction is being rolled back, and keeps one row of a key
@@ -95,6 +95,7 @@ module _ {D : Type 0} (g : Ghosts D) where
     pub same : (s : Session) → IsSessionOf old session s → (t : Session) × IsSessionOf mid session t × (next_line t ≡ next_line s) × (t.waits.items ≡ s.waits.items)
     pub down : (mid.down ≡ old.down) ⊎ ((old.down ≡ 0) × (mid.down ≡ old.number) × Rose (g.faults old.media.log.disk) (g.faults mid.media.log.disk))
     pub faults : g.faults old.media.log.disk ≤ g.faults mid.media.log.disk
+    pub tells : g.tells mid.media.log.disk ≡ g.tells old.media.log.disk
 
   -- In a session's turn not all rows of its transaction could be put back
   pub record HaltsTurn (run : Run) (old mid : PrimaryView D) (before n : NodeView) (number : ℕ) (s : Session) (line : Line) (halt : BackHalt) : Type 0 where
@@ -109,4 +110,5 @@ module _ {D : Type 0} (g : Ghosts D) where
     pub found : IsSessionOf old number s
     pub task : task_of s ≡ Unprinted
     pub quiet : GoesOnQuietly run old mid before n number
+    pub may_go_on : MayTakeTurn mid number
     pub left : LeavesRows old mid before n halt

@@ -1,5 +1,5 @@
 -- What calls outside a turn leave, which end a session's transaction without an answer.
-use Rattle.std.specs.Prelude.{◌≡◌, ◌≢◌, ℕ, ◌≤◌, ◌⊎◌, true, List, ◌++◌, Option, None, Some, Result, Ok, Err}
+use Rattle.std.specs.Prelude.{◌≡◌, ◌≢◌, ℕ, ◌≤◌, ◌⊎◌, true, List, ◌++◌, slice_get, Option, None, Some, Result, Ok, Err}
 use Rattle.std.specs.List.{AllByRecursion}
 use Rattle.mp_machine.specs.Lists.{IsIn}
 use Rattle.mp_machine.specs.View.{part_in}
@@ -51,8 +51,8 @@ refusal_of down (backs.Word wait) = refusals.NotYet wait
 refusal_of down backs.Failed = refusals.Stopped down
 
 module _ {D : Type 0} (g : Ghosts D) where
-  -- A call outside a turn: the primary stands on, and no answer is added
-  pub record CallsOutside (run : Run) (old new : PrimaryView D) (before after : NodeView) : Type 0 where
+  -- A call outside a turn for a session: the primary stands on, no answer is added, and other sessions are as they were
+  pub record CallsOutside (run : Run) (old new : PrimaryView D) (before after : NodeView) (session : ℕ) : Type 0 where
     pub stands : StandsWith g run new after
     pub number : new.number ≡ old.number
     pub work : new.work ≡ old.work
@@ -60,7 +60,9 @@ module _ {D : Type 0} (g : Ghosts D) where
     pub went : Moves CoreExtends old.number before after
     pub goes_on : (entries : List Entry) → PrimaryAgreesIn g old entries before
         → (more : List Entry) × AllByRecursion (λ e. e.answer ≡ None) more × PrimaryAgreesIn g new (entries ++ more) after
+    pub others : (other : ℕ) → session ≢ other → slice_get new.book.sessions.items other ≡ slice_get old.book.sessions.items other
     pub faults : g.faults old.media.log.disk ≤ g.faults new.media.log.disk
+    pub tells : g.tells new.media.log.disk ≡ g.tells old.media.log.disk
 
   -- its own log alone took it down in this call
   abbrev pub WentDownHere : PrimaryView D → PrimaryView D → Type 0

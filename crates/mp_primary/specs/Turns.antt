@@ -54,9 +54,13 @@ IsPutStatement (stmts.Put key value) verb k written = (verb ≡ verbs.Put) × (k
 IsPutStatement (stmts.Del key) verb k written = (verb ≡ verbs.Del) × (k ≡ key) × (written ≡ None)
 IsPutStatement _ verb k written = ⊥
 
+-- no call outside a turn was made for a session at this stage
+abbrev pub IsInTurns : Stage → Type 0
+IsInTurns stage = (trx : Option Begun) → stage ≢ Outside trx
+
 -- rows are put back at this stage in a turn
 abbrev pub IsTakenBack : Stage → Type 0
-IsTakenBack stage = IsGoingBack stage × ((trx : Option Begun) → stage ≢ Outside trx)
+IsTakenBack stage = IsGoingBack stage × IsInTurns stage
 
 module _ {D : Type 0} where
   -- the primary's session with this number
@@ -67,7 +71,7 @@ module _ {D : Type 0} where
   pub record MayTakeTurn (pr : PrimaryView D) (number : ℕ) : Type 0 where
     pub session : Session
     pub found : IsSessionOf pr number session
-    pub inside : (trx : Option Begun) → session.stage ≢ Outside trx
+    pub inside : IsInTurns session.stage
 
   -- it is one whose transaction is to be rolled back unprinted
   pub record MayLeave (pr : PrimaryView D) (number : ℕ) : Type 0 where
@@ -173,6 +177,9 @@ module _ {D : Type 0} (g : Ghosts D) where
     -- it goes down by its own log alone, and once
     pub down : (new.down ≡ old.down) ⊎ ((old.down ≡ 0) × (new.down ≡ old.number) × Rose (g.faults old.media.log.disk) (g.faults new.media.log.disk))
     pub faults : g.faults old.media.log.disk ≤ g.faults new.media.log.disk
+    pub tells : g.tells new.media.log.disk ≡ g.tells old.media.log.disk
+    -- a next turn may be taken for the session
+    pub may_go_on : IfSome session (λ number. MayTakeTurn new number)
     -- what the answer tells
     pub begins : (a : Answer) (view : ℕ) → Adds old new a → a.reply ≡ Began view → Knows before old.number view × (HoldsAll before → view ≡ tso_of before)
     pub draws : (a : Answer) (cts : ℕ) → Adds old new a → cts_of a.reply ≡ Some cts → KnowsLess before old.number cts × (HoldsAll before → cts ≡ tso_of before + 1)
@@ -182,11 +189,12 @@ module _ {D : Type 0} (g : Ghosts D) where
     pub done : (turn ≡ turns.Done → (new.down ≡ 0) × (has_nothing_left old session ≡ true)) × (old.down ≡ 0 → has_nothing_left old session ≡ true → turn ≡ turns.Done)
     pub stopped : ((by : ℕ) → turn ≡ turns.Stopped by → (new.down ≡ by) × (by ≢ 0) × HasNoStatement old session) × (new.down ≢ 0 → HasNoStatement old session → turn ≡ turns.Stopped new.down)
 
-  -- A session's next statement is to be tried: the primary stands with its node, and an answer, a row and a name need no
-  -- memory
+  -- A session's next statement is to be tried in a turn: the primary stands with its node, and an answer, a row and a name need
+  -- no memory
   pub record ComesTo (run : Run) (pr : PrimaryView D) (n : NodeView) (number : ℕ) (s : Session) (line : Line) : Type 0 where
     pub stands : StandsWith g run pr n
     pub next : IsNext pr.book number s line
+    pub inside : IsInTurns s.stage
     pub room : HasRoom pr.book number
 
   -- it is a statement of an open transaction of a primary that is up

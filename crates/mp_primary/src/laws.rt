@@ -1,5 +1,5 @@
 //! What the words of contracts say, tried on small primaries, as the contracts of functions that do nothing.
-ghost use Rattle.std.specs.Prelude.{◌≡◌, ◌≢◌, ℕ, true, false, List, [], ◌∷◌, None, Some, Option, Ok, Err};
+ghost use Rattle.std.specs.Prelude.{◌≡◌, ◌≢◌, ℕ, true, false, List, [], ◌∷◌, None, Some, Option, IfSome, Ok, Err};
 ghost use Rattle.mp_machine.specs.View.{part_in};
 ghost use Rattle.mp_model.specs.declared.ids.TrxName.{TrxName};
 ghost use Rattle.mp_model.specs.declared.replies.Answer.{Answer};
@@ -27,7 +27,7 @@ ghost use Rattle.mp_desk.specs.Making.{IsOpenLog};
 ghost use Rattle.mp_primary.specs.declared.outside.CommitEnd.TheVariants as ends;
 ghost use Rattle.mp_primary.specs.declared.outside.RollRefusal.TheVariants as refusals;
 ghost use Rattle.mp_primary.specs.Primaries.{PrimaryView, IsPrimary, AreSessions, AreWaitsSupported, BeginsByAnswer, IsFirstLog, PrimaryAgrees, PrimaryAgreesIn, StandsWith};
-ghost use Rattle.mp_primary.specs.Turns.{no_task_in, IsPutStatement, IsTakenBack, IsSessionOf, MayTakeTurn, MayLeave, has_nothing_left, HasNoStatement, Adds, AddsAnswer, EndsUnprinted, AddsNext, WaitsFor, NamesWait, IfWaiting, TellsDown, IsLeftAfter, GoesOnBy, TakesTurn, ComesTo, TriesAt};
+ghost use Rattle.mp_primary.specs.Turns.{no_task_in, IsPutStatement, IsInTurns, IsTakenBack, IsSessionOf, MayTakeTurn, MayLeave, has_nothing_left, HasNoStatement, Adds, AddsAnswer, EndsUnprinted, AddsNext, WaitsFor, NamesWait, IfWaiting, TellsDown, IsLeftAfter, GoesOnBy, TakesTurn, ComesTo, TriesAt};
 ghost use Rattle.mp_primary.specs.AtWork.{IsAtWork, HasClearedDesk, HasGoneDown, LeavesAtMostOne, MayStopWith};
 ghost use Rattle.mp_primary.specs.OutsideCalls.{HasOpen, HasOpenStill, StandsOutside, CallsOutside, WentDownHere, IsOnEachImage, EndsAs, RollsBackAs};
 ghost use Rattle.mp_primary.specs.SmallPrimaries.{written_before, gate_alone};
@@ -54,13 +54,15 @@ pub fn law_primary_examples<D: Disk>()
 {}
 
 /// Nothing is left where there are no sessions, and something where one has a transaction open. A delete writes no value.
-/// Rows are put back in a turn at no stage of a call outside one, and no turn is taken for such a session. A transaction is
-/// left unprinted where no statement is left.
+/// A session without a transaction is in turns; one of a call outside them isn't. Rows are put back in a turn at no stage of
+/// such a call, and no turn is taken for such a session. A transaction is left unprinted where no statement is left.
 pub fn law_task_examples()
     ensures no_session { no_task_in None ≡ true }
     ensures a_task { no_task_in (Some (session_with 1 (Stage.Open its_begun) [])) ≡ false }
     ensures deletes { IsPutStatement (Stmt.Del 7) WriteVerb.Del 7 None }
     ensures not_empty { ¬ IsPutStatement (Stmt.Del 7) WriteVerb.Del 7 (Some []) }
+    ensures in_turns { IsInTurns Stage.Closed }
+    ensures not_in_turns { ¬ IsInTurns (Stage.Outside None) }
     ensures taken_back { IsTakenBack (Stage.Leaving its_begun) }
     ensures not_in_a_turn { ¬ IsTakenBack (Stage.Outside (Some its_begun)) }
     ensures a_session { (pr : PrimaryView ℕ) → pr.book.sessions.items ≡ session_with 0 Stage.Closed [] ∷ [] → IsSessionOf pr 0 (session_with 0 Stage.Closed []) }
@@ -101,15 +103,18 @@ pub fn law_answering_examples()
 {}
 
 /// A primary that stands, is up and has nothing left is done; one that is down is not, and one with something left isn't
-/// either. No turn drops an answer. A statement is tried only with room for its answer, and only of a primary that is up.
+/// either. No turn drops an answer, leaves its session with a call outside turns, or changes whether its log's disk tells. A
+/// statement is tried only with room for its answer, and only of a primary that is up.
 pub fn law_turn_examples<D: Disk>()
-    ensures done { (run : Run) (pr : PrimaryView D) (n : NodeView) (session : Option ℕ) → StandsWith D.Disk run pr n → pr.down ≡ 0 → has_nothing_left pr session ≡ true → TakesTurn D.Disk run pr pr n n session Turn.Done }
+    ensures done { (run : Run) (pr : PrimaryView D) (n : NodeView) (session : Option ℕ) → StandsWith D.Disk run pr n → pr.down ≡ 0 → has_nothing_left pr session ≡ true → IfSome session (MayTakeTurn pr) → TakesTurn D.Disk run pr pr n n session Turn.Done }
     ensures not_done { (run : Run) (pr : PrimaryView D) (n : NodeView) (session : Option ℕ) → pr.down ≡ 1 → ¬ TakesTurn D.Disk run pr pr n n session Turn.Done }
     ensures not_with_something_left { (run : Run) (pr : PrimaryView D) (n : NodeView) (session : Option ℕ) → has_nothing_left pr session ≡ false → ¬ TakesTurn D.Disk run pr pr n n session Turn.Done }
     ensures not_stopped { (run : Run) (pr : PrimaryView D) (n : NodeView) (session : Option ℕ) → pr.down ≡ 0 → ¬ TakesTurn D.Disk run pr pr n n session (Turn.Stopped 1) }
     ensures goes_on { (pr : PrimaryView D) (n : NodeView) (session : Option ℕ) (entries : List Entry) → PrimaryAgreesIn D.Disk pr entries n → GoesOnBy D.Disk pr pr n n session entries Turn.Done }
     ensures drops_none { (old new : PrimaryView D) (n : NodeView) (q : CorePart) (a : Answer) → part_in n.parts new.number ≡ Some q → new.book.answers.items ≡ []
         → ¬ GoesOnBy D.Disk old new n n None (record { answer = Some a; trace = no_trace } ∷ []) Turn.Answered }
+    ensures may_not_go_on { (run : Run) (old new : PrimaryView D) (n : NodeView) (turn : Turn) → new.book.sessions.items ≡ session_with 0 (Stage.Outside None) [] ∷ [] → ¬ TakesTurn D.Disk run old new n n (Some 0) turn }
+    ensures tells_still { (run : Run) (old new : PrimaryView D) (n : NodeView) (session : Option ℕ) (turn : Turn) → D.tells old.media.log.disk ≡ true → D.tells new.media.log.disk ≡ false → ¬ TakesTurn D.Disk run old new n n session turn }
     ensures no_room { (run : Run) (pr : PrimaryView D) (n : NodeView) (s : Session) (line : Line) → pr.book.answers.spare ≡ 0 → ¬ ComesTo D.Disk run pr n 1 s line }
     ensures tries_down { (run : Run) (pr : PrimaryView D) (n : NodeView) (stmt : Stmt) → pr.down ≡ 1 → ¬ TriesAt D.Disk run pr n 1 its_begun stmt }
 {}
@@ -129,7 +134,7 @@ pub fn law_work_examples<D: Disk>()
 {}
 
 /// A call outside a turn goes on with a transaction that is open, or that such a call began to put back, with one row of each
-/// key. It adds no answer.
+/// key. It adds no answer, and leaves other sessions as they are.
 /// A commit tells that its log's disk failed only where the primary is down.
 pub fn law_outside_examples<D: Disk>()
     ensures has_open { (pr : PrimaryView D) → pr.book.sessions.items ≡ session_with 1 (Stage.Open its_begun) [] ∷ [] → HasOpen pr 0 its_begun }
@@ -139,8 +144,9 @@ pub fn law_outside_examples<D: Disk>()
     ensures has_ended { (pr : PrimaryView D) (trx : Begun) → pr.book.sessions.items ≡ session_with 1 (Stage.Outside None) [] ∷ [] → ¬ HasOpenStill pr 0 trx }
     ensures stands_outside { (pr : PrimaryView D) → pr.book.sessions.items ≡ session_with 1 (Stage.Outside None) [] ∷ [] → StandsOutside pr 0 None }
     ensures stands_inside { (pr : PrimaryView D) (trx : Option Begun) → pr.book.sessions.items ≡ session_with 1 (Stage.Open its_begun) [] ∷ [] → ¬ StandsOutside pr 0 trx }
-    ensures calls { (run : Run) (pr : PrimaryView D) (n : NodeView) → StandsWith D.Disk run pr n → CallsOutside D.Disk run pr pr n n }
-    ensures calls_answer { (run : Run) (old new : PrimaryView D) (n : NodeView) (a : Answer) → old.book.answers.items ≡ [] → new.book.answers.items ≡ a ∷ [] → ¬ CallsOutside D.Disk run old new n n }
+    ensures calls { (run : Run) (pr : PrimaryView D) (n : NodeView) → StandsWith D.Disk run pr n → CallsOutside D.Disk run pr pr n n 0 }
+    ensures calls_answer { (run : Run) (old new : PrimaryView D) (n : NodeView) (a : Answer) → old.book.answers.items ≡ [] → new.book.answers.items ≡ a ∷ [] → ¬ CallsOutside D.Disk run old new n n 0 }
+    ensures calls_another { (run : Run) (old new : PrimaryView D) (n : NodeView) → old.book.sessions.items ≡ [] → new.book.sessions.items ≡ session_with 1 (Stage.Open its_begun) [] ∷ [] → ¬ CallsOutside D.Disk run old new n n 1 }
     ensures stays_up { (old new : PrimaryView D) → old.number ≡ 1 → new.down ≡ 0 → ¬ WentDownHere D.Disk old new }
     ensures untold { (pr : PrimaryView D) → D.tells pr.media.log.disk ≡ false → IsOnEachImage D.Disk pr own_trx 5 }
     ensures on_no_image { (pr : PrimaryView D) → D.tells pr.media.log.disk ≡ true → D.image pr.media.log.disk gate_alone → ¬ IsOnEachImage D.Disk pr own_trx 5 }

@@ -28,5 +28,5 @@ pub use mp_book::{Refusal, Stage};
 pub use outside::{CommitEnd, RollRefusal};
 pub use primary::{Ended, Primary, Unmade};
 pub use reading_examples::{law_read_end_examples, law_stopping_examples};
-pub use standing::law_standing;
+pub use standing::{law_added, law_answered, law_standing};
 pub use writing_examples::law_holder_examples;

@@ -58,7 +58,7 @@ impl<D: Disk> Primary<D> {
         requires stands { StandsWith D.Disk shared.now self.old node.old }
         requires up { self.old.down ≡ 0 }
         requires has { (trx : Begun) × HasOpen self.old session trx }
-        ensures calls { CallsOutside D.Disk shared.now self.old self.new node.old node.new }
+        ensures calls { CallsOutside D.Disk shared.now self.old self.new node.old node.new session }
         ensures ended { (trx : Begun) → HasOpen self.old session trx → EndsAs D.Disk self.old self.new session trx result }
         ensures above { (cts : ℕ) → result ≡ ends.At cts → KnowsLess node.old self.old.number cts }
         ensures exact { (cts : ℕ) → result ≡ ends.At cts → HoldsAll node.old → cts ≡ tso_of node.old + 1 }
@@ -85,7 +85,7 @@ impl<D: Disk> Primary<D> {
         requires stands { StandsWith D.Disk shared.now self.old node.old }
         requires up { self.old.down ≡ 0 }
         requires has { (trx : Begun) × HasOpenStill self.old session trx }
-        ensures calls { CallsOutside D.Disk shared.now self.old self.new node.old node.new }
+        ensures calls { CallsOutside D.Disk shared.now self.old self.new node.old node.new session }
         ensures ended { (trx : Begun) → HasOpenStill self.old session trx → RollsBackAs D.Disk self.old self.new node.old node.new session trx result }
     {
         let place = session as usize;

@@ -1,5 +1,5 @@
 //! A primary.
-ghost use Rattle.std.specs.Prelude.{◌≡◌, ℕ, ◌≤◌, ◌⊎◌, List, [], length, Some, IfOk, IfErr};
+ghost use Rattle.std.specs.Prelude.{◌≡◌, ℕ, ◌<◌, ◌≤◌, ◌⊎◌, List, [], length, Some, IfOk, IfErr};
 ghost use Rattle.mp_model.specs.declared.ids.TrxName.{TrxName};
 ghost use Rattle.mp_core.specs.declared.part.CorePart.{CorePart};
 ghost use Rattle.mp_core_trx.specs.Events.{IsNode};
@@ -11,6 +11,7 @@ ghost use Rattle.mp_shared.specs.Nodes.{Run, first_node};
 ghost use Rattle.mp_supports.specs.Work.{Work};
 ghost use Rattle.mp_supports.specs.Kept.{Entry, answers_in};
 ghost use Rattle.mp_primary.specs.Primaries.{PrimaryView, IsPrimary, IsFirstLog, PrimaryAgrees, PrimaryAgreesIn};
+ghost use Rattle.mp_primary.specs.Turns.{MayTakeTurn};
 
 use mp_book::Book;
 use mp_core_trx::Base;
@@ -81,6 +82,7 @@ impl<D: Disk> Primary<D> {
         ensures none { IfOk result (λ pr. pr.book.answers.items ≡ []) }
         ensures disk { IfOk result (λ pr. pr.media.log ≡ log) }
         ensures primary { IfOk result IsPrimary }
+        ensures sessions { IfOk result (λ pr. (number : ℕ) → number < 65 → MayTakeTurn pr number) }
         ensures agrees { IfOk result (λ pr. (run : Run) → IsNode run.opening.trx number → run.opening.trx.base ≡ base → run.opening.trx.begins ≡ length (begin_names script.now.lines.items) → PrimaryAgreesIn D.Disk pr [] (first_node run)) }
         ensures unmade { IfErr result (λ unmade. unmade.log ≡ log) }
     {
@@ -107,6 +109,27 @@ impl<D: Disk> Primary<D> {
             },
             down: 0,
         })
+    }
+
+    /// Which primary it is (1 to 8).
+    pub fn number(&self) -> u8
+        ensures { result ≡ self.now.number }
+    {
+        self.number
+    }
+
+    /// With which number it is down, or 0.
+    pub fn down(&self) -> u8
+        ensures { result ≡ self.now.down }
+    {
+        self.down
+    }
+
+    /// How many statements it has answered.
+    pub fn answered(&self) -> usize
+        ensures { result ≡ length self.now.book.answers.items }
+    {
+        self.book.answers.len()
     }
 
     /// Ends the primary: its answers, all of them and in their order, and the disk of its log. It takes no memory.

@@ -1,8 +1,7 @@
 //! A primary's turn: it tries a session's next statement.
-ghost use Rattle.std.specs.Prelude.{◌≡◌, ◌≢◌, ℕ, List, true, Option, Some, None, IfSome, IfOk, OnErr};
+ghost use Rattle.std.specs.Prelude.{◌≡◌, ℕ, List, Some, None, IfSome, IfOk, OnErr};
 ghost use Rattle.mp_script.specs.declared.statements.Line.{Line};
 ghost use Rattle.mp_book.specs.declared.session.Session.{Session};
-ghost use Rattle.mp_book.specs.declared.stage.Stage.TheVariants.{Outside};
 ghost use Rattle.mp_book.specs.declared.stage.Task.TheVariants.{Nothing};
 ghost use Rattle.mp_book.specs.Stages.{task_of};
 ghost use Rattle.mp_shared.specs.Nodes.{Run, NodeView};
@@ -25,7 +24,8 @@ impl<D: Disk> Primary<D> {
     /// for the session. `Answered` adds the answer of that statement, or ends the rollback; no other turn adds an answer.
     /// `Waiting` tells the word that a call read, or the writer of a row, for which the statement waits. `Done` exactly
     /// where the primary isn't down and nothing is left; `Stopped` exactly where it is down and has nothing to answer. Its
-    /// log's disk alone takes it down. `Memory` only for want of memory, before the turn's first step: nothing changed.
+    /// log's disk alone takes it down. `Memory` only for want of memory, before the turn's first step: nothing changed. A next
+    /// turn may be taken for the session.
     pub fn turn<L: Ledger>(
         &mut self,
         shared: &Shared,
@@ -38,6 +38,9 @@ impl<D: Disk> Primary<D> {
         ensures turn { IfOk result (TakesTurn D.Disk shared.now self.old self.new node.old node.new session) }
         ensures memory { OnErr result ((node.new ≡ node.old) × StandsWith D.Disk shared.now self.new node.new) }
         ensures kept { OnErr result ((entries : List Entry) → PrimaryAgreesIn D.Disk self.old entries node.old → PrimaryAgreesIn D.Disk self.new entries node.new) }
+        ensures still { OnErr result ((self.new.media ≡ self.old.media) × (self.new.down ≡ self.old.down) × (self.new.number ≡ self.old.number)
+            × (self.new.work ≡ self.old.work) × (self.new.book.answers.items ≡ self.old.book.answers.items)) }
+        ensures sessions { OnErr result ((number : ℕ) → MayTakeTurn self.old number → MayTakeTurn self.new number) }
     {
         match session {
             None => Ok(self.rest()),
@@ -61,7 +64,7 @@ impl<D: Disk> Primary<D> {
 
     // What a turn of a session comes to that has nothing to do.
     fn nothing_left(&self) -> Turn
-        ensures { (run : Run) (n : NodeView) (number : ℕ) (s : Session) → StandsWith D.Disk run self.now n → IsSessionOf self.now number s → task_of s ≡ Nothing → TakesTurn D.Disk run self.now self.now n n (Some number) result }
+        ensures { (run : Run) (n : NodeView) (number : ℕ) (s : Session) → StandsWith D.Disk run self.now n → IsSessionOf self.now number s → task_of s ≡ Nothing → MayTakeTurn self.now number → TakesTurn D.Disk run self.now self.now n n (Some number) result }
     {
         if self.down != 0 {
             Turn::Stopped(self.down)
@@ -83,6 +86,9 @@ impl<D: Disk> Primary<D> {
         ensures turn { IfOk result (TakesTurn D.Disk shared.now self.old self.new node.old node.new (Some number)) }
         ensures memory { OnErr result ((node.new ≡ node.old) × StandsWith D.Disk shared.now self.new node.new) }
         ensures kept { OnErr result ((entries : List Entry) → PrimaryAgreesIn D.Disk self.old entries node.old → PrimaryAgreesIn D.Disk self.new entries node.new) }
+        ensures still { OnErr result ((self.new.media ≡ self.old.media) × (self.new.down ≡ self.old.down) × (self.new.number ≡ self.old.number)
+            × (self.new.work ≡ self.old.work) × (self.new.book.answers.items ≡ self.old.book.answers.items)) }
+        ensures sessions { OnErr result ((k : ℕ) → MayTakeTurn self.old k → MayTakeTurn self.new k) }
     {
         let place = number as usize;
         match self.book.sessions[place].task() {
@@ -106,7 +112,7 @@ impl<D: Disk> Primary<D> {
         line: Line,
         steps: &mut Steps<L>,
     ) -> Result<Turn, Memory>
-        requires comes { (s : Session) × ComesTo D.Disk shared.now self.old node.old number s line × ((trx : Option Begun) → s.stage ≢ Outside trx) }
+        requires comes { (s : Session) × ComesTo D.Disk shared.now self.old node.old number s line }
         ensures turn { IfOk result (TakesTurn D.Disk shared.now self.old self.new node.old node.new (Some number)) }
         ensures memory { OnErr result ((node.new ≡ node.old) × (self.new ≡ self.old)) }
     {

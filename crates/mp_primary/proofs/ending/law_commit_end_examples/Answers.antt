@@ -45,7 +45,7 @@ returns-clause-not_ready g c = λ pr n one h. one_is_none (blank_buffer 5 true) 
 
 pub returns-clause-stopped_so : goal.returns-clause-stopped_so
 returns-clause-stopped_so g c = λ run pr n stands up agree rose wrote.
-    stopped_ends g.D.Disk run pr n stands up 0 its_begun pr.desk pr.media n stands.desk stands.primary.own (omega arith) wrote agree rose
+    stopped_ends g.D.Disk run pr n stands up 0 its_begun pr.desk pr.media n stands.desk stands.primary.own (omega arith) refl wrote agree rose
     (moves_none pr.number StaysQuiet (λ q. record { extends = core_extends_refl q; begun = refl; rows = refl; drew = refl; made = refl }) n)
 
 pub returns-clause-not_down : goal.returns-clause-not_down

@@ -65,11 +65,18 @@ returns-clause-calls g c = λ run pr n stands. record {
   answers = refl;
   went = goes_none pr.number n;
   goes_on = λ entries agrees. ([], tt, λ q has. subst (λ (l : List Entry). PrimaryAgrees g.D.Disk pr l q) (sym (append-nil entries)) (agrees q has));
+  others = λ other ne. refl;
   faults = omega arith;
+  tells = refl;
 }
 
 pub returns-clause-calls_answer : goal.returns-clause-calls_answer
 returns-clause-calls_answer g c = λ run old new n a none one h. one_is_none a [] (sym one ∙ h.answers ∙ none)
+
+pub returns-clause-calls_another : goal.returns-clause-calls_another
+returns-clause-calls_another g c = λ run old new n none one h.
+    let apart = h.others 0 (λ same. absurd (omega (arith, same))) in
+    something_is_none (session_with 1 (Open its_begun) []) (sym (first_of new.book.sessions.items (session_with 1 (Open its_begun) []) one) ∙ apart ∙ ap (λ (l : List Session). slice_get l 0) none)
 
 pub returns-clause-stays_up : goal.returns-clause-stays_up
 returns-clause-stays_up g c = λ old new one up h. let down = h.0 in absurd (omega (arith, one, up, down))

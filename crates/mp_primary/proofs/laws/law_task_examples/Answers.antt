@@ -32,6 +32,12 @@ returns-clause-deletes c = (refl, refl, refl)
 pub returns-clause-not_empty : goal.returns-clause-not_empty
 returns-clause-not_empty c = λ h. something_is_none [] h.2
 
+pub returns-clause-in_turns : goal.returns-clause-in_turns
+returns-clause-in_turns c = λ trx e. closed_not_outside trx e
+
+pub returns-clause-not_in_turns : goal.returns-clause-not_in_turns
+returns-clause-not_in_turns c = λ inside. inside None refl
+
 pub returns-clause-taken_back : goal.returns-clause-taken_back
 returns-clause-taken_back c = (tt, λ trx e. leaving_not_outside its_begun trx e)
 

@@ -23,6 +23,7 @@ returns-clause-at_work g c = λ run pr n stands up. record {
   media = λ q has. subst (λ (d : ℕ). HoldsPartOf g.D.Disk pr.work d pr.media q) up (stands.agrees.1 q has).media;
   did = moves_none pr.number (λ q r. Did q r no_trace) (λ q. did_looked q q (looked_none q)) n;
   faults = omega arith;
+  tells = refl;
 }
 
 pub returns-clause-not_at_work : goal.returns-clause-not_at_work

@@ -11,6 +11,7 @@ loop-i-init g c = record {
   place = refl;
   log = c.requires.log;
   media = λ work agree. agree;
+  tells = refl;
   counted = omega arith;
 }
 
@@ -49,6 +50,7 @@ loop-i-preserved g c = record {
   place = ap (λ (k : ℕ). k + 1) c.loop-i.invariant.place;
   log = c.in_default.ensures.open;
   media = λ work agree. ⊎_elim (λ agrees. agrees) (λ failed. absurd (cc)) (c.in_default.ensures.media work (c.loop-i.invariant.media work agree));
+  tells = c.put_back.ensures.tells ∙ c.loop-i.invariant.tells;
   counted = let one = c.loop-i.invariant.counted in let two = c.put_back.ensures.counted in omega (arith, one, two);
 }
 

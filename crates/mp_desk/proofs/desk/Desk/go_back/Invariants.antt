@@ -14,5 +14,6 @@ invariant-loop-i g l = record {
   place : l.restored ≡ l.i;
   log : IsOpenLog l.p l.self.llsn l.media.log;
   media : (work : Work) → MediaAgree g.D.Disk work 0 l.initial.media l.p l.initial.node → MediaAgree g.D.Disk work 0 l.media l.p l.node;
+  tells : g.D.Disk.tells l.media.log.disk ≡ g.D.Disk.tells l.initial.media.log.disk;
   counted : g.D.Disk.faults l.initial.media.log.disk ≤ g.D.Disk.faults l.media.log.disk;
 }

@@ -12,7 +12,7 @@ returns-in-Err-clause-down g c = λ old before trace work.
     c.let_go.new.self c.let_go.new.media c.let_go.ensures.desk
     c.in-Err.ensures.refused.0 c.in-Err.ensures.refused.1
     (λ w agree. (c.in-Err.ensures.media w agree).1) c.in-Err.ensures.closed c.in-Err.ensures.counts.no_fall
-    c.in-Err.ensures.counts.cause
+    c.in-Err.ensures.counts.cause c.let_go.ensures.tells
 
 pub returns-clause-cleared : goal.returns-clause-cleared
 returns-clause-cleared g c = λ old before trace work.
@@ -20,4 +20,4 @@ returns-clause-cleared g c = λ old before trace work.
     c.let_go.new.self c.let_go.new.media c.let_go.ensures.desk
     c.in_default.ensures.gone c.in_default.ensures.emptied
     (λ w agree. (c.in_default.ensures.media w agree).0) c.in_default.ensures.unforced c.in_default.ensures.open
-    c.in_default.ensures.counts.no_fall
+    c.in_default.ensures.counts.no_fall c.let_go.ensures.tells

@@ -48,7 +48,7 @@ returns-in-Ok-let_go-clause-ended g c =
     ends_inside g.D.Disk c.args.shared.now _ c.args.self.now _ c.self.view_is c.args.node.now c.let_go.new.node c.args.session c.args.trx (ends.At c.in-Ok.cts)
     (published_ends g.D.Disk c.args.shared.now _ c.args.node.now stands up c.args.session c.args.trx c.let_go.new.self c.let_go.new.media c.let_go.new.node c.let_go.ensures.desk
     (ap (λ (d : Desk). d.mtr.node) emptied ∙ c.commit_trx.ensures.own)
-    (omega (arith, first, second))
+    (omega (arith, first, second)) (c.let_go.ensures.tells ∙ c.commit_trx.ensures.tells)
     (λ s found. c.requires.wrote s (subst (λ (v : PrimaryView g.row.D.Denot). IsSessionOf v c.args.session s) c.self.view_is found))
     c.in-Ok.cts c.commit_trx.new.node c.commit_trx.ensures.desk.part c.in-Ok.ensures.published c.in-Ok-let_go.ensures.gone c.commit_trx.ensures.later
     c.in-Ok-let_go.ensures.open (ap (λ (d : Desk). d.pool) emptied) c.in-Ok-let_go.ensures.unforced (c.in-Ok-let_go.ensures.media _ agree).0)
@@ -62,7 +62,7 @@ returns-in-Err-Failed-clause-ended g c =
     let stands = stands_inside g.D.Disk c.args.shared.now _ c.args.self.now c.self.view_is c.args.node.now c.requires.stands in
     let up = up_inside g.D.Disk c.args.shared.now _ c.args.self.now c.self.view_is c.args.node.now c.requires.up in
     ends_inside g.D.Disk c.args.shared.now _ c.args.self.now _ c.self.view_is c.args.node.now c.commit_trx.new.node c.args.session c.args.trx ends.Stopped
-    (stopped_ends g.D.Disk c.args.shared.now _ c.args.node.now stands up c.args.session c.args.trx c.commit_trx.new.self c.commit_trx.new.media c.commit_trx.new.node c.commit_trx.ensures.desk c.commit_trx.ensures.own c.commit_trx.ensures.counts.no_fall
+    (stopped_ends g.D.Disk c.args.shared.now _ c.args.node.now stands up c.args.session c.args.trx c.commit_trx.new.self c.commit_trx.new.media c.commit_trx.new.node c.commit_trx.ensures.desk c.commit_trx.ensures.own c.commit_trx.ensures.counts.no_fall c.commit_trx.ensures.tells
     (λ s found. c.requires.wrote s (subst (λ (v : PrimaryView g.row.D.Denot). IsSessionOf v c.args.session s) c.self.view_is found))
     (c.in-Err-Failed.ensures.media _ (media_before g.D.Disk c.args.shared.now _ c.args.node.now stands up c.args.session c.args.trx))
     c.in-Err-Failed.ensures.counts.cause
@@ -73,7 +73,7 @@ returns-in-Err-Unknown-clause-ended g c =
     let stands = stands_inside g.D.Disk c.args.shared.now _ c.args.self.now c.self.view_is c.args.node.now c.requires.stands in
     let up = up_inside g.D.Disk c.args.shared.now _ c.args.self.now c.self.view_is c.args.node.now c.requires.up in
     ends_inside g.D.Disk c.args.shared.now _ c.args.self.now _ c.self.view_is c.args.node.now c.commit_trx.new.node c.args.session c.args.trx (ends.Unknown c.in-Err-Unknown.cts)
-    (doubt_ends g.D.Disk c.args.shared.now _ c.args.node.now stands up c.args.session c.args.trx c.commit_trx.new.self c.commit_trx.new.media c.commit_trx.new.node c.commit_trx.ensures.desk c.commit_trx.ensures.own c.commit_trx.ensures.counts.no_fall
+    (doubt_ends g.D.Disk c.args.shared.now _ c.args.node.now stands up c.args.session c.args.trx c.commit_trx.new.self c.commit_trx.new.media c.commit_trx.new.node c.commit_trx.ensures.desk c.commit_trx.ensures.own c.commit_trx.ensures.counts.no_fall c.commit_trx.ensures.tells
     (λ s found. c.requires.wrote s (subst (λ (v : PrimaryView g.row.D.Denot). IsSessionOf v c.args.session s) c.self.view_is found))
     (c.in-Err-Unknown.ensures.media _ (media_before g.D.Disk c.args.shared.now _ c.args.node.now stands up c.args.session c.args.trx))
     c.in-Err-Unknown.ensures.counts.cause c.in-Err-Unknown.cts

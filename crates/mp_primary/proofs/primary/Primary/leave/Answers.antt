@@ -1,14 +1,16 @@
 use Rattle.std.proofs.Common.{◌≡◌, Some, refl, sym, ap, ◌∙◌, inl}
 use Rattle.mp_primary.specs.Primaries.{PrimaryView}
+use Rattle.mp_book.specs.declared.stage.Stage.TheVariants.{Leaving}
+use Rattle.mp_primary.proofs.StillInTurns.{stage_in, leaving_in}
 use Rattle.mp_primary.proofs.QuietTurns.{stopped_turn}
 use Rattle.mp_primary.proofs.QuietlyOn.{quiet_both}
-use Rattle.mp_primary.proofs.BackEnds.{leaving_back, counted_there}
-use Rattle.mp_primary.proofs.TakenBack.{read_trx, unprinted_over, unprinted_line, skipping_left, skipped_ends, open_or_leaving, leaving_ends, leaves_from}
+use Rattle.mp_primary.proofs.BackEnds.{leaving_back, counted_there, counted_may}
+use Rattle.mp_primary.proofs.TakenBack.{read_trx, unprinted_may, unprinted_over, unprinted_line, skipping_left, skipped_ends, open_or_leaving, leaving_ends, leaves_from}
 use Rattle.mp_primary.proofs.primary.Primary.leave.Goals as goal
 
 pub returns-then-self-ne0 : goal.returns-then-self-ne0
 returns-then-self-ne0 g c =
-    stopped_turn g.D.Disk c.args.shared.now c.args.self.now c.args.node.now c.requires.stands (Some c.args.number) c.self.inside.down (ap (λ (v : PrimaryView g.row.D.Denot). v.down) c.self.view_is) c.if-self-ne0.true
+    stopped_turn g.D.Disk c.args.shared.now c.args.self.now c.args.node.now c.requires.stands (Some c.args.number) (unprinted_may c.args.self.now c.args.number c.requires.session.session c.requires.session.found c.requires.session.task) c.self.inside.down (ap (λ (v : PrimaryView g.row.D.Denot). v.down) c.self.view_is) c.if-self-ne0.true
     (unprinted_over c.args.self.now c.args.number c.requires.session.session c.requires.session.found c.requires.session.task)
 
 pub close-requires : goal.close-requires
@@ -49,5 +51,7 @@ returns-in-Ok g c =
 
 pub returns-in-Err : goal.returns-in-Err
 returns-in-Err g c =
+    let t = ((c.set_leaving.ensures.quiet c.args.shared.now c.args.node.now c.requires.stands).same c.requires.session.session c.requires.session.found) in
+    let leaving = c.set_leaving.ensures.leaving t.0 t.1 in
     c.halt_leaving.ensures c.args.shared.now c.args.self.now c.args.node.now c.go_back.new.node c.args.number c.requires.session.session
-    (record { stands = c.requires.stands; found = c.requires.session.found; task = c.requires.session.task; quiet = (quiet_both g.D.Disk c.args.shared.now c.args.self.now c.set_leaving.new.self c.go_back.new.self c.args.node.now c.args.node.now c.go_back.new.node c.args.number (c.set_leaving.ensures.quiet c.args.shared.now c.args.node.now c.requires.stands) c.go_back.ensures.quiet); left = leaves_from g.D.Disk c.args.shared.now c.args.self.now c.set_leaving.new.self c.go_back.new.self c.args.node.now c.go_back.new.node c.args.number (c.set_leaving.ensures.quiet c.args.shared.now c.args.node.now c.requires.stands) c.in-Err.halt c.in-Err.ensures.cause })
+    (record { stands = c.requires.stands; found = c.requires.session.found; task = c.requires.session.task; quiet = (quiet_both g.D.Disk c.args.shared.now c.args.self.now c.set_leaving.new.self c.go_back.new.self c.args.node.now c.args.node.now c.go_back.new.node c.args.number (c.set_leaving.ensures.quiet c.args.shared.now c.args.node.now c.requires.stands) c.go_back.ensures.quiet); may_go_on = counted_may c.set_leaving.new.self c.go_back.new.self c.args.number t.0 t.1 c.go_back.ensures.counts (stage_in (t.0).stage (Leaving c.in-Some.trx) leaving.0 (leaving_in c.in-Some.trx)); left = leaves_from g.D.Disk c.args.shared.now c.args.self.now c.set_leaving.new.self c.go_back.new.self c.args.node.now c.go_back.new.node c.args.number (c.set_leaving.ensures.quiet c.args.shared.now c.args.node.now c.requires.stands) c.in-Err.halt c.in-Err.ensures.cause })

@@ -3,7 +3,7 @@ use Rattle.mp_script.specs.declared.statements.Script.{Script}
 use Rattle.mp_core_trx.specs.declared.opening.Base.{Base}
 use Rattle.mp_book.specs.Books.{own_lines}
 use Rattle.mp_supports.specs.Work.{Work}
-use Rattle.mp_primary.proofs.FirstPrimary.{first_agrees_by}
+use Rattle.mp_primary.proofs.FirstPrimary.{first_agrees_by, first_may}
 use Rattle.mp_primary.proofs.primary.Primary.new.Goals as goal
 
 -- the work of a script over a base
@@ -14,3 +14,7 @@ pub returns-clause-agrees : goal.returns-clause-agrees
 returns-clause-agrees g c = λ run node base begins.
     first_agrees_by g.D.Disk _ (work_by c.args.script.now c.args.base) (ap (λ (script : Script). work_by script c.args.base) c.of.ensures) (own_lines c.args.script.now.lines.items c.args.script.now.sessions.items c.args.number) c.in-Ok-new.ensures.starts c.in-Ok-new.ensures.none c.requires.few
     c.in-Ok-new-2.ensures.1 c.in-Ok-new-2.ensures.2 c.requires.log refl run node base begins
+
+pub returns-clause-sessions : goal.returns-clause-sessions
+returns-clause-sessions g c = λ number below.
+    first_may _ (own_lines c.args.script.now.lines.items c.args.script.now.sessions.items c.args.number) c.in-Ok-new.ensures.starts c.in-Ok-new.ensures.book.whole number below

@@ -5,12 +5,12 @@ use Rattle.mp_primary.proofs.QuietTurns.{stopped_turn, done_turn, resting_turn}
 use Rattle.mp_primary.proofs.primary.Primary.rest.Goals as goal
 
 pub returns-then-self-ne0 : goal.returns-then-self-ne0
-returns-then-self-ne0 g c = λ run n stands. stopped_turn g.D.Disk run c.args.self.now n stands None c.self.inside.down (ap (λ (v : PrimaryView g.row.D.Denot). v.down) c.self.view_is) c.if-self-ne0.true tt
+returns-then-self-ne0 g c = λ run n stands. stopped_turn g.D.Disk run c.args.self.now n stands None tt c.self.inside.down (ap (λ (v : PrimaryView g.row.D.Denot). v.down) c.self.view_is) c.if-self-ne0.true tt
 
 pub returns-then-is_through : goal.returns-then-is_through
 returns-then-is_through g c = λ run n stands.
     let view = c.self.view_is in
-    done_turn g.D.Disk run c.args.self.now n stands None (sym (ap (λ (v : PrimaryView g.row.D.Denot). v.down) view) ∙ c.if-self-ne0.false)
+    done_turn g.D.Disk run c.args.self.now n stands None tt (sym (ap (λ (v : PrimaryView g.row.D.Denot). v.down) view) ∙ c.if-self-ne0.false)
     (sym (ap (λ (v : PrimaryView g.row.D.Denot). have_no_task v.book.sessions.items) view) ∙ sym c.if-is_through.ensures)
 
 pub returns-else-is_through : goal.returns-else-is_through

@@ -32,12 +32,12 @@ pub put-done-requires-clause-agrees : goal.put-done-requires-clause-agrees
 put-done-requires-clause-agrees g c = copy_agrees g.D.Disk _ c.args.self.now c.self.view_is c.args.shared.now c.args.node.now c.args.number c.args.trx c.args.from c.args.to c.requires.tries c.get.new.self c.get.new.node c.get.ensures.desk c.get.ensures.looks
 
 pub end_write-requires : goal.end_write-requires
-end_write-requires g c = record { after = (_, c.args.node.now, copy_ends g.D.Disk _ c.args.self.now c.self.view_is c.args.shared.now c.args.node.now c.args.number c.args.trx c.args.from c.args.to c.requires.tries c.get.new.self c.get.new.node c.get.ensures.desk c.get.ensures.looks c.in-Ok.value c.in-Ok.ensures.got c.put-done.new.self c.put-done.new.media c.put-done.new.node c.put-done.ensures.desk c.put-done.ensures.own c.put-done.ensures.counted c.put-done.result c.put-done.ensures.wrote c.put-done.ensures.quiet c.put-done.ensures.cause c.put-done.ensures.open c.put-done.ensures.still_open c.put-done.ensures.fresh c.put-done.ensures.failed c.put-done.ensures.media) }
+end_write-requires g c = record { after = (_, c.args.node.now, copy_ends g.D.Disk _ c.args.self.now c.self.view_is c.args.shared.now c.args.node.now c.args.number c.args.trx c.args.from c.args.to c.requires.tries c.get.new.self c.get.new.node c.get.ensures.desk c.get.ensures.looks c.in-Ok.value c.in-Ok.ensures.got c.put-done.new.self c.put-done.new.media c.put-done.new.node c.put-done.ensures.desk c.put-done.ensures.own c.put-done.ensures.counted c.put-done.ensures.tells c.put-done.result c.put-done.ensures.wrote c.put-done.ensures.quiet c.put-done.ensures.cause c.put-done.ensures.open c.put-done.ensures.still_open c.put-done.ensures.fresh c.put-done.ensures.failed c.put-done.ensures.media) }
 
 pub returns-in-Ok : goal.returns-in-Ok
 returns-in-Ok g c =
     seen_turn g.D.Disk _ c.args.self.now c.self.view_is c.args.shared.now c.args.node.now _ _ (Some c.args.number) _
-    (c.end_write.ensures _ c.args.node.now (copy_ends g.D.Disk _ c.args.self.now c.self.view_is c.args.shared.now c.args.node.now c.args.number c.args.trx c.args.from c.args.to c.requires.tries c.get.new.self c.get.new.node c.get.ensures.desk c.get.ensures.looks c.in-Ok.value c.in-Ok.ensures.got c.put-done.new.self c.put-done.new.media c.put-done.new.node c.put-done.ensures.desk c.put-done.ensures.own c.put-done.ensures.counted c.put-done.result c.put-done.ensures.wrote c.put-done.ensures.quiet c.put-done.ensures.cause c.put-done.ensures.open c.put-done.ensures.still_open c.put-done.ensures.fresh c.put-done.ensures.failed c.put-done.ensures.media))
+    (c.end_write.ensures _ c.args.node.now (copy_ends g.D.Disk _ c.args.self.now c.self.view_is c.args.shared.now c.args.node.now c.args.number c.args.trx c.args.from c.args.to c.requires.tries c.get.new.self c.get.new.node c.get.ensures.desk c.get.ensures.looks c.in-Ok.value c.in-Ok.ensures.got c.put-done.new.self c.put-done.new.media c.put-done.new.node c.put-done.ensures.desk c.put-done.ensures.own c.put-done.ensures.counted c.put-done.ensures.tells c.put-done.result c.put-done.ensures.wrote c.put-done.ensures.quiet c.put-done.ensures.cause c.put-done.ensures.open c.put-done.ensures.still_open c.put-done.ensures.fresh c.put-done.ensures.failed c.put-done.ensures.media))
 
 pub halt_read-requires : goal.halt_read-requires
 halt_read-requires g c =

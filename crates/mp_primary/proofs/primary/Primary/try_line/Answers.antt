@@ -38,7 +38,7 @@ take_back-requires-clause-comes g c =
       own.0,
       c.args.line,
       own.1,
-      (goes_back _ c.args.self.now c.self.view_is c.args.number own.0 own.1.next.found c.index.result.now c.index.ensures (Refused c.in-Refused.field-0 c.in-Refused.field-1) c.in-Refused.is tt, own.2),
+      (goes_back _ c.args.self.now c.self.view_is c.args.number own.0 own.1.next.found c.index.result.now c.index.ensures (Refused c.in-Refused.field-0 c.in-Refused.field-1) c.in-Refused.is tt, own.1.inside),
     )
 
 pub take_back-requires-in-Leaving-clause-comes : goal.take_back-requires-in-Leaving-clause-comes
@@ -47,7 +47,7 @@ take_back-requires-in-Leaving-clause-comes g c =
       own.0,
       c.args.line,
       own.1,
-      (goes_back _ c.args.self.now c.self.view_is c.args.number own.0 own.1.next.found c.index.result.now c.index.ensures (Leaving c.in-Leaving.field-0) c.in-Leaving.is tt, own.2),
+      (goes_back _ c.args.self.now c.self.view_is c.args.number own.0 own.1.next.found c.index.result.now c.index.ensures (Leaving c.in-Leaving.field-0) c.in-Leaving.is tt, own.1.inside),
     )
 
 pub skip-requires-clause-comes : goal.skip-requires-clause-comes
@@ -58,7 +58,7 @@ skip-requires-clause-comes g c =
 pub unreachable-requires : goal.unreachable-requires
 unreachable-requires g c =
     let own = c.requires.comes in
-    own.2 c.in-Outside.field-0 (its_stage _ c.args.self.now c.self.view_is c.args.number own.0 own.1.next.found c.index.result.now c.index.ensures (Outside c.in-Outside.field-0) c.in-Outside.is)
+    own.1.inside c.in-Outside.field-0 (its_stage _ c.args.self.now c.self.view_is c.args.number own.0 own.1.next.found c.index.result.now c.index.ensures (Outside c.in-Outside.field-0) c.in-Outside.is)
 
 pub returns-in-Skipping-clause-turn : goal.returns-in-Skipping-clause-turn
 returns-in-Skipping-clause-turn g c = let own = c.requires.comes in c.skip.ensures c.args.shared.now c.args.node.now own.0 c.args.line own.1

@@ -40,10 +40,10 @@ put-done-requires-clause-agrees g c =
 pub end_write-requires : goal.end_write-requires
 end_write-requires g c =
     let t = c.requires.tries in
-    record { after = (_, c.args.node.now, put_ends g.D.Disk _ c.args.self.now c.self.view_is c.args.shared.now c.args.node.now c.args.number c.args.trx t.0 t.1 c.args.verb c.args.key c.args.value t.2 c.put-done.new.self c.put-done.new.media c.put-done.new.node c.put-done.ensures.desk c.put-done.ensures.own c.put-done.ensures.counted c.put-done.result c.put-done.ensures.wrote c.put-done.ensures.quiet c.put-done.ensures.cause c.put-done.ensures.open c.put-done.ensures.still_open c.put-done.ensures.fresh c.put-done.ensures.failed c.put-done.ensures.media) }
+    record { after = (_, c.args.node.now, put_ends g.D.Disk _ c.args.self.now c.self.view_is c.args.shared.now c.args.node.now c.args.number c.args.trx t.0 t.1 c.args.verb c.args.key c.args.value t.2 c.put-done.new.self c.put-done.new.media c.put-done.new.node c.put-done.ensures.desk c.put-done.ensures.own c.put-done.ensures.counted c.put-done.ensures.tells c.put-done.result c.put-done.ensures.wrote c.put-done.ensures.quiet c.put-done.ensures.cause c.put-done.ensures.open c.put-done.ensures.still_open c.put-done.ensures.fresh c.put-done.ensures.failed c.put-done.ensures.media) }
 
 pub returns : goal.returns
 returns g c =
     let t = c.requires.tries in
     seen_turn g.D.Disk _ c.args.self.now c.self.view_is c.args.shared.now c.args.node.now _ _ (Some c.args.number) _
-    (c.end_write.ensures _ c.args.node.now (put_ends g.D.Disk _ c.args.self.now c.self.view_is c.args.shared.now c.args.node.now c.args.number c.args.trx t.0 t.1 c.args.verb c.args.key c.args.value t.2 c.put-done.new.self c.put-done.new.media c.put-done.new.node c.put-done.ensures.desk c.put-done.ensures.own c.put-done.ensures.counted c.put-done.result c.put-done.ensures.wrote c.put-done.ensures.quiet c.put-done.ensures.cause c.put-done.ensures.open c.put-done.ensures.still_open c.put-done.ensures.fresh c.put-done.ensures.failed c.put-done.ensures.media))
+    (c.end_write.ensures _ c.args.node.now (put_ends g.D.Disk _ c.args.self.now c.self.view_is c.args.shared.now c.args.node.now c.args.number c.args.trx t.0 t.1 c.args.verb c.args.key c.args.value t.2 c.put-done.new.self c.put-done.new.media c.put-done.new.node c.put-done.ensures.desk c.put-done.ensures.own c.put-done.ensures.counted c.put-done.ensures.tells c.put-done.result c.put-done.ensures.wrote c.put-done.ensures.quiet c.put-done.ensures.cause c.put-done.ensures.open c.put-done.ensures.still_open c.put-done.ensures.fresh c.put-done.ensures.failed c.put-done.ensures.media))

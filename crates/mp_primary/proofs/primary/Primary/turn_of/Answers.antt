@@ -1,7 +1,7 @@
 use Rattle.std.proofs.Common.{◌≡◌, ◌<◌, length, refl}
 use Rattle.mp_book.specs.declared.stage.Task.TheVariants.{Statement, Unprinted, Nothing}
 use Rattle.mp_primary.proofs.StagedTurns.{place_below, its_task, next_stated}
-use Rattle.mp_primary.proofs.RoomedTurns.{if_ok_map, on_err_map, roomed_stands, roomed_kept, roomed_comes, roomed_turn, roomed_stays, roomed_still}
+use Rattle.mp_primary.proofs.RoomedTurns.{if_ok_map, on_err_map, roomed_stands, roomed_kept, roomed_comes, roomed_turn, roomed_stays, roomed_still, roomed_same, roomed_may, roomed_sessions}
 use Rattle.mp_primary.proofs.primary.Primary.turn_of.Goals as goal
 
 pub leave-requires-clause-session : goal.leave-requires-clause-session
@@ -33,7 +33,7 @@ try_line-requires g c =
 pub returns-in-Nothing-clause-turn : goal.returns-in-Nothing-clause-turn
 returns-in-Nothing-clause-turn g c =
     let own = c.requires.session in
-    c.nothing_left.ensures c.args.shared.now c.args.node.now c.args.number own.session c.requires.stands own.found (its_task _ c.args.self.now c.self.view_is c.args.number own.session own.found c.index.result.now c.index.ensures c.task.result c.task.ensures Nothing c.in-Nothing.is)
+    c.nothing_left.ensures c.args.shared.now c.args.node.now c.args.number own.session c.requires.stands own.found (its_task _ c.args.self.now c.self.view_is c.args.number own.session own.found c.index.result.now c.index.ensures c.task.result c.task.ensures Nothing c.in-Nothing.is) own
 
 pub returns-in_default-clause-turn : goal.returns-in_default-clause-turn
 returns-in_default-clause-turn g c =
@@ -49,3 +49,23 @@ pub returns-in_default-clause-kept : goal.returns-in_default-clause-kept
 returns-in_default-clause-kept g c =
     let own = c.requires.session in
     on_err_map _ _ c.try_line.result (roomed_still g.D.Disk c.args.shared.now _ c.args.self.now c.self.view_is c.args.node.now c.args.number own.session own.found c.requires.stands c.make_room.new.self c.make_room.ensures.answers c.make_room.ensures.same c.make_room.ensures.book c.try_line.new.self c.try_line.new.node) c.try_line.ensures.memory
+
+pub returns-in-Err-clause-still : goal.returns-in-Err-clause-still
+returns-in-Err-clause-still g c =
+    let own = c.requires.session in
+    roomed_same g.D.Disk c.args.shared.now _ c.args.self.now c.self.view_is c.args.node.now c.args.number own.session own.found c.requires.stands c.make_room.new.self c.make_room.ensures.answers c.make_room.ensures.same c.make_room.ensures.book _ c.args.node.now (refl, refl)
+
+pub returns-in-Err-clause-sessions : goal.returns-in-Err-clause-sessions
+returns-in-Err-clause-sessions g c =
+    let own = c.requires.session in
+    roomed_may g.D.Disk c.args.shared.now _ c.args.self.now c.self.view_is c.args.node.now c.args.number own.session own.found c.requires.stands c.make_room.new.self c.make_room.ensures.answers c.make_room.ensures.same c.make_room.ensures.book
+
+pub returns-in_default-clause-still : goal.returns-in_default-clause-still
+returns-in_default-clause-still g c =
+    let own = c.requires.session in
+    on_err_map _ _ c.try_line.result (roomed_same g.D.Disk c.args.shared.now _ c.args.self.now c.self.view_is c.args.node.now c.args.number own.session own.found c.requires.stands c.make_room.new.self c.make_room.ensures.answers c.make_room.ensures.same c.make_room.ensures.book c.try_line.new.self c.try_line.new.node) c.try_line.ensures.memory
+
+pub returns-in_default-clause-sessions : goal.returns-in_default-clause-sessions
+returns-in_default-clause-sessions g c =
+    let own = c.requires.session in
+    on_err_map _ _ c.try_line.result (roomed_sessions g.D.Disk c.args.shared.now _ c.args.self.now c.self.view_is c.args.node.now c.args.number own.session own.found c.requires.stands c.make_room.new.self c.make_room.ensures.answers c.make_room.ensures.same c.make_room.ensures.book c.try_line.new.self c.try_line.new.node) c.try_line.ensures.memory
