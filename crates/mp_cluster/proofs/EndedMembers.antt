@@ -1,0 +1,162 @@
+-- Members that have nothing left to do have answered all, over a world that can be reached.
+use Rattle.std.proofs.Common.{◌≡◌, ℕ, ◌+◌, ◌-◌, ◌<◌, ◌≤◌, true, List, [], ◌∷◌, length, map, slice_get, Some, refl, sym, ap, subst, ◌∙◌, arith}
+use Rattle.std.specs.List.{AllByRecursion}
+use Rattle.std.proofs.lemmas.List.{length-map}
+use Rattle.std.proofs.lemmas.Option.{slice_get_within}
+use Rattle.mp_machine.specs.View.{part_in, ViewAgrees}
+use Rattle.mp_model.specs.declared.histories.Opening.{Opening}
+use Rattle.mp_model.specs.declared.replies.Answer.{Answer}
+use Rattle.mp_model.specs.declared.transcripts.Mode.TheVariants.{Step}
+use Rattle.mp_model.specs.declared.transcripts.Transcript.{Transcript}
+use Rattle.mp_files.proofs.Places.{at_place}
+use Rattle.mp_outside.specs.declared.disks.Disk.{Ghosts}
+use Rattle.mp_script.specs.declared.statements.Script.{Script}
+use Rattle.mp_script.specs.Answers.{ViewsCover}
+use Rattle.mp_script.specs.Below.{EachBelow, answered, stated}
+use Rattle.mp_script.specs.Execution.{is_session_on}
+use Rattle.mp_script.specs.Legal.{Legal}
+use Rattle.mp_script.specs.Spelling.{IsSpelled}
+use Rattle.mp_script.proofs.Declared.{on_declared}
+use Rattle.mp_script.proofs.Lists.{all_map}
+use Rattle.mp_script.proofs.SpelledLines.{session_within, spelled_in_order}
+use Rattle.mp_core_trx.specs.declared.opening.Base.{Base}
+use Rattle.mp_core_trx.specs.Events.{IsNode}
+use Rattle.mp_core.specs.declared.opening.CoreOpening.{CoreOpening}
+use Rattle.mp_core.specs.declared.part.CorePart.{CorePart}
+use Rattle.mp_core.specs.Invariant.{NumbersFit}
+use Rattle.mp_core.specs.World.{CoreWorld, core_part}
+use Rattle.mp_facts.specs.Facts.{Facts}
+use Rattle.mp_book.specs.Answered.{IsPlaced}
+use Rattle.mp_book.specs.Through.{have_no_task}
+use Rattle.mp_report.specs.Readable.{IsReadable}
+use Rattle.mp_shared.specs.Nodes.{Run}
+use Rattle.mp_supports.specs.Work.{Work}
+use Rattle.mp_supports.specs.Kept.{answers_in, Kept}
+use Rattle.mp_verdict.specs.Finished.{BeginsWith}
+use Rattle.mp_verdict.specs.Orders.{NodeEntry, entries_given, given_by}
+use Rattle.mp_desk.proofs.ReachedFacts.{KnownWorld, known_world}
+use Rattle.mp_primary.proofs.AllAnswered.{all_answered}
+use Rattle.mp_primary.specs.Primaries.{PrimaryView, IsPrimary, PrimaryAgrees}
+use Rattle.mp_members.specs.declared.members.Members.{Members}
+use Rattle.mp_members.specs.Running.{AreThrough, IsMember, Runs}
+use Rattle.mp_lineup.specs.LiningUp.{AreListed, work_over}
+use Rattle.mp_cluster.specs.StepTranscripts.{IsStepOver}
+use Rattle.mp_cluster.proofs.AnsweredRuns.{AnswersAll, answered_legal, answered_readable}
+use Rattle.mp_cluster.proofs.PlacesOfLists.{from_mapped}
+
+-- a session that is on a primary of a spelled script is one of 64
+session_below : (script : Script) → IsSpelled script → (session n : ℕ) → is_session_on script.sessions.items session n ≡ true → session < 65
+session_below script spelled session n on =
+    let bounds = session_within script.sessions.items session (spelled_in_order script spelled).declared (on_declared script.sessions.items session n on) in
+    let high = bounds.1 in
+    omega (arith, high)
+
+within_all : (P : ℕ → Type 0) (given : List NodeEntry) → AllByRecursion (λ x. P x.node) given → AllByRecursion P (map (λ x. x.node) given)
+within_all P [] all = tt
+within_all P (x ∷ given) all = (all.0, within_all P given all.1)
+
+module _ {D : Type 0} where
+  -- a primary that has nothing left to do has answered all statements of its sessions
+  stated_all : (pr : PrimaryView D) → IsPrimary pr → have_no_task pr.book.sessions.items ≡ true → (session : ℕ) → session < 65 → is_session_on pr.work.sessions session pr.number ≡ true
+      → answered session pr.book.answers.items ≡ stated session pr.work.lines
+  stated_all pr is none session below on = all_answered pr.work.lines pr.work.sessions pr.number pr.book is.book none session below on
+
+module _ {D : Type 0} (g : Ghosts D) (work : Work) (m : Members D) (given : List NodeEntry) (runs : Runs g work m given) where
+  its_opening : m.node.run.opening ≡ m.shared.opening
+  its_opening = ap (λ (r : Run). r.opening) runs.run
+
+  -- each primary of the run is a member
+  member_at : (n : ℕ) → IsNode m.shared.opening.trx n → (pr : PrimaryView D) × (slice_get m.primaries.items (n - 1) ≡ Some pr) × IsMember g work m given n pr
+  member_at n node =
+      let low = node.0 in
+      let high = node.1 in
+      let count = runs.count in
+      let at = at_place m.primaries.items (n - 1) (omega (arith, low, high, count)) in
+      let here : n - 1 + 1 ≡ n = omega (arith, low) in
+      (at.0, at.1, subst (λ (k : ℕ). IsMember g work m given k at.0) here (runs.each (n - 1) at.0 at.1))
+
+  -- and agrees with the part that the node has of it
+  agrees_at : (n : ℕ) → IsNode m.shared.opening.trx n → (pr : PrimaryView D) → IsMember g work m given n pr → (q : CorePart) × (part_in m.node.parts n ≡ Some q) × PrimaryAgrees g pr (given_by n given) q
+  agrees_at n node pr is =
+      let q = runs.holds n (subst (λ (o : CoreOpening). IsNode o.trx n) (sym its_opening) node) in
+      (q.0, q.1, is.agrees q.0 (ap (part_in m.node.parts) is.number ∙ q.1))
+
+  -- so a world that agrees with the node has its part
+  kept_at : (w : CoreWorld) → ViewAgrees (core_part w) m.node.parts → (n : ℕ) → IsNode m.shared.opening.trx n → Kept work (core_part w n) 0 (given_by n given)
+  kept_at w agrees n node =
+      let x = member_at n node in
+      let q = agrees_at n node x.0 x.2 in
+      subst (λ (p : CorePart). Kept work p 0 (given_by n given)) (sym (agrees n q.0 q.1))
+      (subst (λ (d : ℕ). Kept work q.0 d (given_by n given)) x.2.up
+      (subst (λ (k : Work). Kept k q.0 (x.0).down (given_by n given)) x.2.work_is q.2.kept))
+
+  placed_at : (n : ℕ) → IsNode m.shared.opening.trx n → EachBelow (IsPlaced work.lines work.sessions n) [] (answers_in (given_by n given))
+  placed_at n node =
+      let x = member_at n node in
+      subst (EachBelow (IsPlaced work.lines work.sessions n) []) (sym (agrees_at n node x.0 x.2).2.answers)
+      (subst (λ (k : ℕ). EachBelow (IsPlaced work.lines work.sessions k) [] (x.0).book.answers.items) x.2.number
+      (subst (λ (k : Work). EachBelow (IsPlaced k.lines k.sessions (x.0).number) [] (x.0).book.answers.items) x.2.work_is x.2.stands.primary.book.placed))
+
+  stated_at : AreThrough m → (n session : ℕ) → IsNode m.shared.opening.trx n → session < 65 → is_session_on work.sessions session n ≡ true → answered session (answers_in (given_by n given)) ≡ stated session work.lines
+  stated_at through n session node below on =
+      let x = member_at n node in
+      let here : is_session_on (x.0).work.sessions session (x.0).number ≡ true =
+      subst (λ (k : ℕ). is_session_on (x.0).work.sessions session k ≡ true) (sym x.2.number)
+      (subst (λ (k : Work). is_session_on k.sessions session n ≡ true) (sym x.2.work_is) on) in
+      ap (answered session) (agrees_at n node x.0 x.2).2.answers
+      ∙ stated_all x.0 x.2.stands.primary (through (n - 1) x.0 x.1) session below here
+      ∙ ap (λ (k : Work). stated session k.lines) x.2.work_is
+
+  -- the lists of the primaries' answers have those that were given
+  pub answers_listed : AreListed given m.order.items (map (λ pr. pr.book.answers.items) m.primaries.items)
+  answers_listed = record {
+    order_is = runs.order;
+    answered = runs.answered;
+    within = subst (AllByRecursion (λ n. (1 ≤ n) × (n ≤ length lists))) (sym runs.order)
+        (within_all (λ n. (1 ≤ n) × (n ≤ length lists)) given (all_map (λ (x : NodeEntry). IsNode m.shared.opening.trx x.node) (λ (x : NodeEntry). (1 ≤ x.node) × (x.node ≤ length lists)) given
+        (λ x node. let low = node.0 in let high = node.1 in (low, omega (arith, high, as_many))) runs.of_nodes));
+    lists_are = λ place answers at.
+        let x = from_mapped (λ (pr : PrimaryView D). pr.book.answers.items) m.primaries.items place answers at in
+        let within = slice_get_within m.primaries.items place x.0 x.1 in
+        let count = runs.count in
+        let node : IsNode m.shared.opening.trx (place + 1) = (omega arith, omega (arith, within, count)) in
+        x.2 ∙ sym (agrees_at (place + 1) node x.0 (runs.each place x.0 x.1)).2.answers;
+  }
+    where
+      lists : List (List Answer)
+      lists = map (λ pr. pr.book.answers.items) m.primaries.items
+
+      as_many : length (map (λ pr. pr.book.answers.items) m.primaries.items) ≡ m.shared.opening.trx.primaries
+      as_many = length-map m.primaries.items (λ (pr : PrimaryView D). pr.book.answers.items) ∙ runs.count
+
+  pub known : KnownWorld m.node
+  known = known_world m.node runs.reached
+
+module _ {D : Type 0} (g : Ghosts D) (script : Script) (base : Base) (m : Members D) (given : List NodeEntry) (runs : Runs g (work_over script base) m given) where
+  pub answers_all : IsSpelled script → AreThrough m → m.shared.opening.trx.primaries ≡ script.primaries → AnswersAll (work_over script base) script m.shared.opening (known g (work_over script base) m given runs).world given
+  answers_all spelled through primaries =
+      let its_known = known g (work_over script base) m given runs in
+      let opening_is = its_opening g (work_over script base) m given runs in
+      record {
+        fit = subst NumbersFit opening_is runs.reached.fair;
+        facts = subst (λ (o : CoreOpening). Facts o its_known.world) opening_is its_known.facts;
+        work_of = record { lines = refl; sessions = refl; base = sym runs.base; primaries = sym primaries; begins = runs.begins };
+        kept = kept_at g (work_over script base) m given runs its_known.world its_known.agrees;
+        in_order = placed_at g (work_over script base) m given runs;
+        none_left = λ n session node on. stated_at g (work_over script base) m given runs through n session node (session_below script spelled session n on) on;
+        answered_all = runs.answered;
+        of_nodes = runs.of_nodes;
+        rising = runs.rising;
+        views = subst (λ (b : Base). ViewsCover Step b.ts (answers_in (entries_given given))) (sym runs.base) runs.views;
+      }
+
+  module _ (spelled : IsSpelled script) (through : AreThrough m) (primaries : m.shared.opening.trx.primaries ≡ script.primaries) (opening : Opening) (opened : BeginsWith m.shared.opening opening)
+      (transcript : Transcript) (t : IsStepOver base.ts (answers_in (entries_given given)) transcript) where
+    over_table : IsStepOver m.shared.opening.trx.base.ts (answers_in (entries_given given)) transcript
+    over_table = subst (λ (b : Base). IsStepOver b.ts (answers_in (entries_given given)) transcript) (sym runs.base) t
+
+    pub members_legal : Legal script opening transcript
+    members_legal = answered_legal (work_over script base) script m.shared.opening (known g (work_over script base) m given runs).world given spelled (answers_all spelled through primaries) opening opened transcript over_table
+
+    pub members_readable : IsReadable transcript
+    members_readable = answered_readable (work_over script base) script m.shared.opening (known g (work_over script base) m given runs).world given spelled (answers_all spelled through primaries) opening opened transcript over_table

@@ -1,0 +1,9 @@
+pub mod AnsweredRuns
+pub mod CommitCounts
+pub mod DrivenMembers
+pub mod EndedMembers
+pub mod PlacesOfLists
+pub mod PresentRows
+pub mod RunsOverDisks
+pub mod SameDisks
+pub mod TriesOnPrimaries

@@ -1,0 +1,4 @@
+pub mod Runs
+pub mod StepRuns
+pub mod StepTranscripts
+pub mod SmallRuns

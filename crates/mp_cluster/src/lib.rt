@@ -1,0 +1,13 @@
+//! A script of several sessions run by several primaries over nine disks.
+#![tactic(auto)]
+
+mod examples;
+mod laws;
+mod running;
+mod step;
+mod transcripts;
+
+pub use examples::{law_legal_run_examples, law_run_examples, law_transcript_examples};
+pub use laws::law_run_is_legal;
+pub use mp_opening::{ClusterRefusal, SpentNumber};
+pub use step::step_all;

@@ -1,0 +1,6 @@
+mod Appended
+mod ShownDraws
+mod GivenEntries
+mod TurnGoesOn
+mod Turned
+mod Tried

@@ -1,0 +1,11 @@
+//! Drives the members of a run through a script, on one thread: it takes turns by the schedule until nothing is left to do.
+#![tactic(auto)]
+
+mod causes;
+mod driving;
+mod examples;
+mod places;
+mod turning;
+
+pub use driving::{Halt, drive};
+pub use examples::{law_driving_examples, law_trying_examples};

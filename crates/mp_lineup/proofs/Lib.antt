@@ -1,0 +1,5 @@
+pub mod TakenAnswers
+pub mod FirstRuns
+pub mod FirstLogs
+pub mod LogsAndIdle
+pub mod MoreMembers

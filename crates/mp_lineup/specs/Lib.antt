@@ -1,0 +1,3 @@
+pub mod LiningUp
+pub mod NewMembers
+pub mod SmallRuns

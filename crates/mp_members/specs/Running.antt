@@ -1,0 +1,84 @@
+-- A run of several primaries between two turns.
+use Rattle.std.specs.Prelude.{◌≡◌, ℕ, ◌+◌, ◌<◌, true, List, [], ◌++◌, length, map, slice_get, Some, is_some}
+use Rattle.std.specs.List.{filter_map, AllByRecursion}
+use Rattle.mp_model.specs.Folded.{AscendsFrom}
+use Rattle.mp_model.specs.declared.transcripts.Mode.TheVariants.{Step}
+use Rattle.mp_script.specs.Answers.{ViewsCover}
+use Rattle.mp_script.specs.BeginNames.{begin_names}
+use Rattle.mp_script.specs.Below.{numbers, greatest_cts}
+use Rattle.mp_core_trx.specs.Events.{IsNode}
+use Rattle.mp_book.specs.Through.{have_no_task}
+use Rattle.mp_outside.specs.declared.disks.Disk.{Ghosts}
+use Rattle.mp_files.specs.Nine.{At, StillDisk, DiskRose}
+use Rattle.mp_log.specs.Tails.{LogView}
+use Rattle.mp_shared.specs.Nodes.{Reached, HoldsAll}
+use Rattle.mp_trx_fusion.specs.Calls.{tso_of}
+use Rattle.mp_supports.specs.Work.{Work}
+use Rattle.mp_supports.specs.Kept.{answers_in}
+use Rattle.mp_verdict.specs.Orders.{NodeEntry, entries_given, given_by}
+use Rattle.mp_primary.specs.Primaries.{PrimaryView, PrimaryAgreesIn, StandsWith}
+use Rattle.mp_primary.specs.Turns.{MayTakeTurn}
+use Rattle.mp_members.specs.declared.members.Members.{Members}
+
+module _ {D : Type 0} where
+  -- the logs of all members, that of primary n at place n - 1: those of the primaries, and the idle ones
+  abbrev pub logs_of : Members D → List (LogView D)
+  logs_of m = map (λ pr. pr.media.log) m.primaries.items ++ m.idle.items
+
+  -- no primary has anything left to do
+  abbrev pub AreThrough : Members D → Type 0
+  AreThrough m = (place : ℕ) (pr : PrimaryView D) → slice_get m.primaries.items place ≡ Some pr → have_no_task pr.book.sessions.items ≡ true
+
+module _ {D : Type 0} (g : Ghosts D) where
+  -- A member: a primary of this number that is up, stands with the node, and agrees with its part by the answers that it gave;
+  -- any of its sessions may take a turn
+  pub record IsMember (work : Work) (m : Members D) (given : List NodeEntry) (n : ℕ) (pr : PrimaryView D) : Type 0 where
+    pub number : pr.number ≡ n
+    pub work_is : pr.work ≡ work
+    pub up : pr.down ≡ 0
+    pub stands : StandsWith g m.shared pr m.node
+    pub agrees : PrimaryAgreesIn g pr (given_by n given) m.node
+    pub may_turn : (session : ℕ) → session < 65 → MayTakeTurn pr session
+
+  -- A RUN BETWEEN TWO TURNS: the node has the parts of all primaries of a world that can be reached, each primary is a member,
+  -- and these answers were given in this order: their mtrs rise in the history, each view is the greatest commit above it, and
+  -- the timestamp oracle counts the commits, and shows the greatest of their numbers
+  pub record Runs (work : Work) (m : Members D) (given : List NodeEntry) : Type 0 where
+    pub run : m.node.run ≡ m.shared
+    pub base : m.shared.opening.trx.base ≡ work.base
+    pub begins : m.shared.opening.trx.begins ≡ length (begin_names work.lines)
+    pub holds : HoldsAll m.node
+    pub reached : Reached m.node
+    pub frames : m.node.frames ≡ []
+    pub count : length m.primaries.items ≡ m.shared.opening.trx.primaries
+    pub each : (place : ℕ) (pr : PrimaryView D) → slice_get m.primaries.items place ≡ Some pr → IsMember work m given (place + 1) pr
+    pub order : m.order.items ≡ map (λ x. x.node) given
+    pub answered : AllByRecursion (λ x. is_some x.entry.answer ≡ true) given
+    pub of_nodes : AllByRecursion (λ x. IsNode m.shared.opening.trx x.node) given
+    pub rising : AscendsFrom (λ t. t.at) 0 (filter_map (λ x. x.entry.trace.mtr) given)
+    pub views : ViewsCover Step work.base.ts (answers_in (entries_given given))
+    pub clock : tso_of m.node ≡ work.base.ts + length (numbers (answers_in (entries_given given)))
+    pub greatest : greatest_cts work.base.ts (numbers (answers_in (entries_given given))) ≡ tso_of m.node
+
+  -- the same primary, over the same disk: it tells as before, and its count of faults didn't fall
+  pub record IsSameMember (old new : PrimaryView D) : Type 0 where
+    pub number : new.number ≡ old.number
+    pub work_is : new.work ≡ old.work
+    pub disk : StillDisk g old.media.log.disk new.media.log.disk
+
+  -- the same members, of the same table
+  pub record AreSameMembers (old new : Members D) : Type 0 where
+    pub shared : new.shared ≡ old.shared
+    pub idle : new.idle ≡ old.idle
+    pub count : length new.primaries.items ≡ length old.primaries.items
+    pub each : (place : ℕ) → At IsSameMember old.primaries.items new.primaries.items place
+
+  -- the primary with this number is a member before and after, and the count of faults of its log's disk rose
+  pub record MemberFailed (number : ℕ) (old new : Members D) : Type 0 where
+    pub place : ℕ
+    pub number_is : number ≡ place + 1
+    pub before : PrimaryView D
+    pub after : PrimaryView D
+    pub was : slice_get old.primaries.items place ≡ Some before
+    pub now : slice_get new.primaries.items place ≡ Some after
+    pub rose : DiskRose g before.media.log.disk after.media.log.disk
