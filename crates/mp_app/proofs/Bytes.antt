@@ -1,33 +1,68 @@
--- What the bytes come to, by what their script or their refusal came to.
-use Rattle.std.proofs.Common.{◌≡◌, ℕ, List, Some, inl, inr}
+-- What the bytes come to, by what their script or their refusal came to; and what a script comes to, by what its run did.
+use Rattle.std.proofs.Common.{◌≡◌, ℕ, List, [], Some, inl, inr}
+use Rattle.mp_model.specs.declared.transcripts.Mode.TheVariants as mode
+use Rattle.mp_model.specs.declared.transcripts.Transcript.{Transcript}
+use Rattle.mp_outside.specs.declared.disks.Disk.{Ghosts}
+use Rattle.mp_files.specs.declared.disks.Disks.{Disks}
+use Rattle.mp_files.specs.Nine.{AllTell, as_read}
+use Rattle.mp_report.specs.Readable.{IsReadable}
 use Rattle.mp_script.specs.declared.statements.Script.{Script}
 use Rattle.mp_script.specs.Faults.{FaultAt, script_fault}
-use Rattle.mp_script.specs.OneSession.{IsPlain}
 use Rattle.mp_script.specs.Spelling.{Spells}
+use Rattle.mp_commands.specs.declared.faults.DiskFault.TheVariants as faults
+use Rattle.mp_opening.specs.declared.refusals.ClusterRefusal.{ClusterRefusal}
+use Rattle.mp_opening.specs.declared.refusals.ClusterRefusal.TheVariants as cluster
+use Rattle.mp_opening.specs.Openings.{MayBegin, RefusesRun, RunCause}
+use Rattle.mp_cluster.specs.Runs.{IsLegalRun, RunLeaves, transactions_of}
 use Rattle.mp_app.specs.declared.output.Output.{Output}
 use Rattle.mp_app.specs.declared.status.Status.{Status}
 use Rattle.mp_app.specs.declared.status.Status.TheVariants.{Done, Usage, Script as BadScript, Store, Stopped, Source, Sink, Disk, Memory}
 use Rattle.mp_app.specs.Answered.{BytesSay, ScriptSays}
-use Rattle.mp_app.specs.Printed.{text_of, Prints, PrintsFault}
-use Rattle.mp_app.specs.Texts.{not_built_text, no_memory_text}
+use Rattle.mp_app.specs.Printed.{text_of, Prints, PrintsFault, PrintsTranscript, PrintsRunRefusal}
+use Rattle.mp_app.specs.Texts.{no_memory_text}
 
-pub says_script : (bytes : List ℕ) (script : Script) (status : Status) (text : List ℕ) → Spells bytes script → IsPlain script → ScriptSays script status text → BytesSay bytes status text
-says_script bytes script Done text spelled plain says = (script, spelled, plain, says)
-says_script bytes script Usage text spelled plain says = absurd says
-says_script bytes script BadScript text spelled plain says = absurd says
-says_script bytes script Store text spelled plain says = absurd says
-says_script bytes script Stopped text spelled plain says = absurd says
-says_script bytes script Source text spelled plain says = absurd says
-says_script bytes script Sink text spelled plain says = absurd says
-says_script bytes script Disk text spelled plain says = absurd says
-says_script bytes script Memory text spelled plain says = says
+module _ {D : Type 0} (g : Ghosts D) where
+  pub says_script : (bytes : List ℕ) (script : Script) (old new : Disks D) (status : Status) (text : List ℕ) → Spells bytes script → ScriptSays g script old new status text
+      → BytesSay g bytes old new status text
+  says_script bytes script old new Done text spelled says = (script, spelled, says)
+  says_script bytes script old new Usage text spelled says = absurd says
+  says_script bytes script old new BadScript text spelled says = absurd says
+  says_script bytes script old new Store text spelled says = (script, spelled, says)
+  says_script bytes script old new Stopped text spelled says = absurd says
+  says_script bytes script old new Source text spelled says = absurd says
+  says_script bytes script old new Sink text spelled says = absurd says
+  says_script bytes script old new Disk text spelled says = (script, spelled, says)
+  says_script bytes script old new Memory text spelled says = says
 
-pub says_not_built : (bytes : List ℕ) (script : Script) (output : Output) → Prints BadScript not_built_text output → Spells bytes script → ¬ IsPlain script → BytesSay bytes output.status (text_of output.printed)
-says_not_built bytes script output prints spelled several = rw prints.0 (inr (record { script = script; spelled = spelled; several = several; printed = prints.1 }))
+  pub says_fault : (bytes : List ℕ) (found : FaultAt) (disks : Disks D) (output : Output) → PrintsFault found output → script_fault bytes ≡ Some found
+      → BytesSay g bytes disks disks output.status (text_of output.printed)
+  says_fault bytes found disks output (inl says) first = rw says.0 (record { found = found; first = first; printed = says.1 })
+  says_fault bytes found disks output (inr says) first = rw says.0 says.1
 
-pub says_fault : (bytes : List ℕ) (found : FaultAt) (output : Output) → PrintsFault found output → script_fault bytes ≡ Some found → BytesSay bytes output.status (text_of output.printed)
-says_fault bytes found output (inl says) first = rw says.0 (inl (record { found = found; first = first; printed = says.1 }))
-says_fault bytes found output (inr says) first = rw says.0 says.1
+  pub says_memory : (bytes : List ℕ) (disks : Disks D) (output : Output) → Prints Memory no_memory_text output → BytesSay g bytes disks disks output.status (text_of output.printed)
+  says_memory bytes disks output prints = rw prints.0 prints.1
 
-pub says_memory : (bytes : List ℕ) (output : Output) → Prints Memory no_memory_text output → BytesSay bytes output.status (text_of output.printed)
-says_memory bytes output prints = rw prints.0 prints.1
+  -- a transcript is printed as one that may be
+  pub run_done : (script : Script) (old new : Disks D) (transcript : Transcript) (output : Output) → (AllTell g old → MayBegin (as_read g old) (transactions_of script))
+      → IsLegalRun g old script transcript → IsReadable transcript → transcript.mode ≡ mode.Step → transcript.downs.items ≡ [] → PrintsTranscript transcript output
+      → ScriptSays g script old new output.status (text_of output.printed)
+  run_done script old new transcript output begins legal readable in_mode up (inl says) =
+      rw says.0 (begins, record { transcript = transcript; mode = in_mode; up = up; legal = legal; readable = readable; printed = says.1 })
+  run_done script old new transcript output begins legal readable in_mode up (inr says) = rw says.0 says.1
+
+  -- and a refusal of a run as what it is
+  pub run_refused : (script : Script) (old new : Disks D) (refusal : ClusterRefusal) (output : Output) → (AllTell g old → RefusesRun (as_read g old) (transactions_of script) refusal)
+      → RunLeaves g old new refusal → RunCause g old new refusal → PrintsRunRefusal refusal output → ScriptSays g script old new output.status (text_of output.printed)
+  run_refused script old new (cluster.Store place) output first left cause (inl says) = rw says.0 (cluster.Store place, tt, first, left, says.1)
+  run_refused script old new (cluster.Store place) output first left cause (inr says) = rw says.0 says.1
+  run_refused script old new cluster.StoreDisk output first left cause says = rw says.0 (record { fault = faults.Store; rose = cause; printed = says.1 })
+  run_refused script old new (cluster.Log primary place) output first left cause (inl says) = rw says.0 (cluster.Log primary place, tt, first, left, says.1)
+  run_refused script old new (cluster.Log primary place) output first left cause (inr says) = rw says.0 says.1
+  run_refused script old new (cluster.LogDisk primary) output first left cause (inl says) = rw says.0 (record { fault = faults.Log primary; rose = cause; printed = says.1 })
+  run_refused script old new (cluster.LogDisk primary) output first left cause (inr says) = rw says.0 says.1
+  run_refused script old new (cluster.NeedsRecover primary llsn) output first left cause (inl says) = rw says.0 (cluster.NeedsRecover primary llsn, tt, first, left, says.1)
+  run_refused script old new (cluster.NeedsRecover primary llsn) output first left cause (inr says) = rw says.0 says.1
+  run_refused script old new cluster.NotClean output first left cause says = rw says.0 (cluster.NotClean, tt, first, left, says.1)
+  run_refused script old new (cluster.Spent what base add) output first left cause (inl says) = rw says.0 (cluster.Spent what base add, tt, first, left, says.1)
+  run_refused script old new (cluster.Spent what base add) output first left cause (inr says) = rw says.0 says.1
+  run_refused script old new cluster.Memory output first left cause says = rw says.0 says.1

@@ -14,59 +14,61 @@ use Rattle.mp_recover.specs.declared.refusals.RecoverRefusal.TheVariants as reco
 use Rattle.mp_recover.specs.Recovering.{RefusesBy}
 use Rattle.mp_script.proofs.ScriptLaws.{spelled-no_fault, spelled-once}
 use Rattle.mp_script.specs.declared.statements.Script.{Script}
-use Rattle.mp_script.specs.OneSession.{IsPlain}
-use Rattle.mp_script.specs.Spelling.{Spells, IsSameScript}
+use Rattle.mp_script.specs.BeginNames.{begin_names}
+use Rattle.mp_script.specs.Spelling.{Spells}
+use Rattle.mp_opening.specs.Openings.{MayBegin}
+use Rattle.mp_cluster.specs.Runs.{transactions_of}
 use Rattle.mp_app.specs.declared.commands.Command.{Command}
 use Rattle.mp_app.specs.declared.commands.Command.TheVariants.{Session, Plain}
 use Rattle.mp_app.specs.declared.commands.PlainCommand.TheVariants.{Init, Recover, Dump, Logs}
 use Rattle.mp_app.specs.declared.commands.SessionCommand.TheVariants.{Step}
 use Rattle.mp_app.specs.declared.status.Status.{Status}
 use Rattle.mp_app.specs.declared.status.Status.TheVariants.{Done, Usage, Script as BadScript, Store, Stopped, Source, Sink, Disk, Memory}
-use Rattle.mp_app.specs.Calls.{SourceUse, ReadUpToTheBound}
+use Rattle.mp_app.specs.Calls.{SourceUse, ReadToItsEnd, ReadUpToTheBound}
 use Rattle.mp_app.specs.Commands.{Names}
-use Rattle.mp_app.specs.Complete.{HasScript, NothingRose, MayRecover, IsInOrder}
-use Rattle.mp_app.specs.Outcomes.{RefusesItsScript, HasFault, IsNotBuilt, StepSays, DumpSays, InitSays, IsOfContent, FaultsRose, RecoverSays, LogsSays, CommandSays, Says}
+use Rattle.mp_app.specs.Complete.{MayStep, NothingRose, MayRecover, IsInOrder}
+use Rattle.mp_app.specs.Outcomes.{ReadsScript, RefusesItsScript, StepSays, DumpSays, InitSays, IsOfContent, FaultsRose, RecoverSays, LogsSays, CommandSays, Says}
 use Rattle.mp_app.proofs.NamedOnce.{named_once}
+use Rattle.mp_app.proofs.RunsBegin.{none_some, never_refused}
 
 -- done, or no memory
 abbrev IsAnswered : Status → Type 0
 IsAnswered status = (status ≡ Done) ⊎ (status ≡ Memory)
 
-no_some : {T : Type 0} {x : T} → ◌≡◌ {A = Option T} None (Some x) → ⊥
-no_some e = cc
-
-none_some : {T : Type 0} {x : T} {m : Option T} → m ≡ None → m ≡ Some x → ⊥
-none_some none some = no_some (sym none ∙ some)
-
-same_plain : (one other : Script) → IsSameScript one other → IsPlain one → IsPlain other
-same_plain one other same plain = record { primaries = same.primaries ∙ plain.primaries; sessions = subst (λ s. length s ≤ 1) (sym same.sessions) plain.sessions }
-
 -- what was read up to the bound of bytes that spell a script are these bytes
-whole_read : (source : SourceUse) (has : HasScript source.left) (bytes : List ℕ) → ReadUpToTheBound source.left bytes → bytes ≡ has.bytes
-whole_read source has bytes read = subst (λ left. ReadUpToTheBound left bytes) has.told read ∙ take_all 1048577 has.bytes (omega (arith, has.spelled.size))
+whole_read : (left : Option (List ℕ)) (told : List ℕ) (script : Script) (bytes : List ℕ) → left ≡ Some told → Spells told script → ReadUpToTheBound left bytes → bytes ≡ told
+whole_read left told script bytes is spelled read = subst (λ l. ReadUpToTheBound l bytes) is read ∙ take_all 1048577 told (omega (arith, spelled.size))
 
 -- so they aren't refused
-not_refused : (source : SourceUse) (text : List ℕ) → HasScript source.left → RefusesItsScript source text → ⊥
-not_refused source text has refuses = by_cause refuses.refused
-  where
-    spells : Spells refuses.bytes has.script
-    spells = subst (λ bytes. Spells bytes has.script) (sym (whole_read source has refuses.bytes refuses.read)) has.spelled
+not_refused : (source : SourceUse) (text told : List ℕ) (script : Script) → source.left ≡ Some told → Spells told script → RefusesItsScript source text → ⊥
+not_refused source text told script is spelled refuses =
+    let whole = whole_read source.left told script refuses.bytes is spelled refuses.read in
+    none_some (spelled-no_fault refuses.bytes script (subst (λ bytes. Spells bytes script) (sym whole) spelled)) refuses.refused.first
 
-    by_cause : HasFault refuses.bytes text ⊎ IsNotBuilt refuses.bytes text → ⊥
-    by_cause (inl fault) = none_some (spelled-no_fault refuses.bytes has.script spells) fault.first
-    by_cause (inr several) = several.several (same_plain has.script several.script (spelled-once refuses.bytes has.script several.script spells several.spelled) has.plain)
+-- and the script that is read has the transactions of the one that they spell
+same_begins : (source : SourceUse) (told : List ℕ) (script read : Script) → source.left ≡ Some told → Spells told script → ReadsScript source read → transactions_of script ≡ transactions_of read
+same_begins source told script read is spelled reads =
+    let whole = subst (λ l. ReadToItsEnd l source.still_left reads.bytes) is reads.read in
+    let same = spelled-once told script read spelled (subst (λ bytes. Spells bytes read) whole.0 reads.spelled) in
+    ap (λ lines. length (begin_names lines)) (sym same.lines)
 
 module _ {D : Type 0} (g : Ghosts D) (source : SourceUse) (sink sink_after : ℕ) (old new : Disks D) (nothing : NothingRose g source sink sink_after old new) where
-  step_answered : HasScript source.left → (status : Status) (text : List ℕ) → StepSays source status text → IsAnswered status
-  step_answered has Done text says = inl refl
-  step_answered has Usage text says = absurd says
-  step_answered has BadScript text says = absurd (not_refused source text has says)
-  step_answered has Store text says = absurd says
-  step_answered has Stopped text says = absurd says
-  step_answered has Source text says = absurd (nothing.no_source says.0)
-  step_answered has Sink text says = absurd says
-  step_answered has Disk text says = absurd says
-  step_answered has Memory text says = inr refl
+  no_faults_rose : (fault : DiskFault) → FaultsRose g fault old new → ⊥
+  no_faults_rose StoreFailed rose = nothing.no_store rose
+  no_faults_rose (LogFailed primary) rose = nothing.no_log primary rose
+
+  step_answered : MayStep g source.left old → (status : Status) (text : List ℕ) → StepSays g source old new status text → IsAnswered status
+  step_answered may Done text says = inl refl
+  step_answered may Usage text says = absurd says
+  step_answered may BadScript text says = absurd (not_refused source text may.bytes may.script may.told may.spelled says)
+  step_answered may Store text says =
+      let begins = subst (MayBegin (as_read g old)) (same_begins source may.bytes may.script says.script may.told may.spelled says.reads) may.begins in
+      absurd (never_refused (as_read g old) (transactions_of says.script) begins says.refusal says.content (says.first may.disks_told))
+  step_answered may Stopped text says = absurd says
+  step_answered may Source text says = absurd (nothing.no_source says.0)
+  step_answered may Sink text says = absurd says
+  step_answered may Disk text says = absurd (no_faults_rose says.fault says.rose)
+  step_answered may Memory text says = inr refl
 
   dump_answered : IsInOrder g (Plain Dump) source old → (status : Status) (text : List ℕ) → DumpSays g old.store new.store status text → IsAnswered status
   dump_answered order Done text says = inl refl
@@ -124,10 +126,6 @@ module _ {D : Type 0} (g : Ghosts D) (source : SourceUse) (sink sink_after : ℕ
   no_refusal may (recover.NotApplicable page llsn) content refuses = none_some may.redone refuses.1
   no_refusal may (recover.Spent last) content refuses = may.not_spent refuses.2
   no_refusal may recover.Memory content refuses = content
-
-  no_faults_rose : (fault : DiskFault) → FaultsRose g fault old new → ⊥
-  no_faults_rose StoreFailed rose = nothing.no_store rose
-  no_faults_rose (LogFailed primary) rose = nothing.no_log primary rose
 
   recover_answered : MayRecover g old → (status : Status) (text : List ℕ) → RecoverSays g old new status text → IsAnswered status
   recover_answered may Done text says = inl refl

@@ -2,7 +2,7 @@ mod Bytes
 mod Completes
 mod NamedOnce
 mod OneWord
-mod PrintedLegal
 mod Reading
 mod Refused
+mod RunsBegin
 mod SaidByCommands

@@ -41,8 +41,14 @@ store_no_sink status store sink = differ (sym store ∙ sink)
 
 module _ {D : Type 0} (g : Ghosts D) where
   pub session_said : (command : SessionCommand) (source : SourceUse) (old new : Disks D) (status : Status) (text : List ℕ)
-      → StepSays source status text → CommandSays g (Session command) source old new status text
+      → StepSays g source old new status text → CommandSays g (Session command) source old new status text
   session_said Step source old new status text says = says
+
+  -- where what the disks hold is refused for a run, they are as they were
+  pub step_kept : (source : SourceUse) (old new : Disks D) (status : Status) (text : List ℕ) → StepSays g source old new status text → status ≡ Store → KeptNine g old new
+  step_kept source old new status text says is =
+      let at_store : StepSays g source old new Store text = subst (λ s. StepSays g source old new s text) is says in
+      at_store.kept
 
   pub front_said : (words : List (List ℕ)) (source : SourceUse) (old new : Disks D) (command : Command) (before after : Option (List ℕ))
       → Names words command → WritesFront (CommandSays g command source old new) before after → WritesFront (Says g words source old new) before after

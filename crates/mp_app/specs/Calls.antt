@@ -1,6 +1,5 @@
--- What a call of the program reads of its source, and from which opening it answers.
+-- What a call of the program reads of its source.
 use Rattle.std.specs.Prelude.{◌≡◌, ℕ, List, [], take, Option, Some, None}
-use Rattle.mp_model.specs.declared.histories.Opening.{Opening}
 use Rattle.mp_outside.specs.declared.sources.Source as sources
 
 -- what was done with the source: what it had left before and after, where it tells, and its counts of faults
@@ -22,9 +21,3 @@ ReadToItsEnd (Some input) still_left bytes = (bytes ≡ input) × (still_left �
 abbrev pub ReadUpToTheBound : Option (List ℕ) → List ℕ → Type 0
 ReadUpToTheBound None bytes = Unit {0}
 ReadUpToTheBound (Some input) bytes = bytes ≡ take 1048577 input
-
--- a store without rows, of which the meta page and the root are taken
-pub record IsFreshOpening (opening : Opening) : Type 0 where
-  pub base : opening.base ≡ 0
-  pub taken : opening.taken ≡ 2
-  pub rows : opening.rows.items ≡ []

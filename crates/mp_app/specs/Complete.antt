@@ -7,7 +7,8 @@ use Rattle.mp_files.specs.Nine.{LogRose, EachTells, AllTell, as_read, seen_at}
 use Rattle.mp_commands.specs.LogTexts.{fault_below}
 use Rattle.mp_recover.specs.Recovering.{HasNoFault, redone_by, IsSpent}
 use Rattle.mp_script.specs.declared.statements.Script.{Script}
-use Rattle.mp_script.specs.OneSession.{IsPlain}
+use Rattle.mp_opening.specs.Openings.{MayBegin}
+use Rattle.mp_cluster.specs.Runs.{transactions_of}
 use Rattle.mp_script.specs.Spelling.{Spells}
 use Rattle.mp_store.specs.StoreFiles.{store_fault}
 use Rattle.mp_app.specs.declared.commands.Command.{Command}
@@ -15,14 +16,6 @@ use Rattle.mp_app.specs.declared.commands.Command.TheVariants.{Session, Plain}
 use Rattle.mp_app.specs.declared.commands.PlainCommand.TheVariants.{Init, Recover, Dump, Logs}
 use Rattle.mp_app.specs.declared.commands.SessionCommand.TheVariants.{Step}
 use Rattle.mp_app.specs.Calls.{SourceUse}
-
--- what the source has left is told, and it spells a script of one primary and one session at most
-pub record HasScript (left : Option (List ℕ)) : Type 0 where
-  pub bytes : List ℕ
-  pub script : Script
-  pub told : left ≡ Some bytes
-  pub spelled : Spells bytes script
-  pub plain : IsPlain script
 
 module _ {D : Type 0} (g : Ghosts D) where
   -- no count of faults rose: not the source's, nor the sink's, nor that of a disk
@@ -39,9 +32,18 @@ module _ {D : Type 0} (g : Ghosts D) where
     pub redone : (redone_by (as_read g disks)).1 ≡ None
     pub not_spent : IsSpent (as_read g disks) → ⊥
 
+  -- what the source has left is told, and spells a script that may begin over nine disks that tell
+  pub record MayStep (left : Option (List ℕ)) (disks : Disks D) : Type 0 where
+    pub bytes : List ℕ
+    pub script : Script
+    pub told : left ≡ Some bytes
+    pub spelled : Spells bytes script
+    pub disks_told : AllTell g disks
+    pub begins : MayBegin (as_read g disks) (transactions_of script)
+
   -- what a command reads is of its grammar; `init` reads nothing
   abbrev pub IsInOrder : Command → SourceUse → Disks D → Type 0
-  IsInOrder (Session Step) source disks = HasScript source.left
+  IsInOrder (Session Step) source disks = MayStep source.left disks
   IsInOrder (Plain Init) source disks = Unit {0}
   IsInOrder (Plain Recover) source disks = MayRecover disks
   IsInOrder (Plain Dump) source disks = IsTrue (g.tells disks.store) × (store_fault (g.seen disks.store) ≡ None)

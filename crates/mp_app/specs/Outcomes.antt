@@ -1,7 +1,6 @@
 -- What each status means: when it comes, and which text goes with it.
 use Rattle.std.specs.Prelude.{◌≡◌, ◌⊎◌, ℕ, List, [], Option, Some, None, IsTrue, length}
 use Rattle.std.specs.Io.KnownBytes.{Appends}
-use Rattle.mp_model.specs.declared.histories.Opening.{Opening}
 use Rattle.mp_model.specs.declared.transcripts.Mode.{Mode}
 use Rattle.mp_model.specs.declared.transcripts.Mode.TheVariants as mode
 use Rattle.mp_model.specs.declared.transcripts.Transcript.{Transcript}
@@ -13,9 +12,11 @@ use Rattle.mp_files.specs.Nine.{EachTells, AllTell, Every, as_read, seen_at, Kep
 use Rattle.mp_report.specs.Transcripts.{transcript_text}
 use Rattle.mp_report.specs.Readable.{IsReadable}
 use Rattle.mp_script.specs.declared.statements.Script.{Script}
-use Rattle.mp_script.specs.Legal.{Legal}
+use Rattle.mp_opening.specs.declared.refusals.ClusterRefusal.{ClusterRefusal}
+use Rattle.mp_opening.specs.declared.refusals.ClusterRefusal.TheVariants as cluster
+use Rattle.mp_opening.specs.Openings.{MayBegin, RefusesRun}
+use Rattle.mp_cluster.specs.Runs.{IsLegalRun, transactions_of}
 use Rattle.mp_script.specs.Faults.{FaultAt, script_fault}
-use Rattle.mp_script.specs.OneSession.{IsPlain}
 use Rattle.mp_script.specs.Spelling.{Spells}
 use Rattle.mp_app.specs.declared.status.Status.{Status}
 use Rattle.mp_app.specs.declared.status.Status.TheVariants.{Done, Usage, Script as BadScript, Store, Source, Disk, Memory}
@@ -34,31 +35,16 @@ use Rattle.mp_app.specs.declared.commands.Command.{Command}
 use Rattle.mp_app.specs.declared.commands.Command.TheVariants.{Session, Plain}
 use Rattle.mp_app.specs.declared.commands.PlainCommand.TheVariants.{Init, Recover, Dump, Logs}
 use Rattle.mp_app.specs.declared.commands.SessionCommand.TheVariants.{Step}
-use Rattle.mp_app.specs.Calls.{SourceUse, ReadToItsEnd, ReadUpToTheBound, IsFreshOpening}
+use Rattle.mp_app.specs.Calls.{SourceUse, ReadToItsEnd, ReadUpToTheBound}
 use Rattle.mp_app.specs.Commands.{Names, NoCommand}
 use Rattle.mp_app.specs.Recoveries.{recovered_text}
-use Rattle.mp_app.specs.Texts.{usage_text, not_built_text, script_fault_text, source_fault_text, store_refused_text, store_failed_text, log_failed_text, log_refused_text, disk_failed_text, recovery_refused_text, ready_text, no_memory_text}
+use Rattle.mp_app.specs.Texts.{usage_text, script_fault_text, run_refused_text, source_fault_text, store_refused_text, store_failed_text, log_failed_text, log_refused_text, disk_failed_text, recovery_refused_text, ready_text, no_memory_text}
 
--- the text is that of a readable transcript of a mode, legal for the script over a fresh store, with no primary down
-pub record PrintsLegal (in_mode : Mode) (script : Script) (text : List ℕ) : Type 0 where
-  pub opening : Opening
-  pub transcript : Transcript
-  pub fresh : IsFreshOpening opening
-  pub mode : transcript.mode ≡ in_mode
-  pub up : transcript.downs.items ≡ []
-  pub legal : Legal script opening transcript
-  pub readable : IsReadable transcript
-  pub printed : text ≡ transcript_text transcript
-
--- the source was read to its end, the bytes read spell a script of one primary and one session at most, and it
--- is answered
-pub record AnswersItsScript (source : SourceUse) (text : List ℕ) : Type 0 where
+-- the source was read to its end, and the bytes read spell the script
+pub record ReadsScript (source : SourceUse) (script : Script) : Type 0 where
   pub bytes : List ℕ
-  pub script : Script
   pub read : ReadToItsEnd source.left source.still_left bytes
   pub spelled : Spells bytes script
-  pub plain : IsPlain script
-  pub answered : PrintsLegal mode.Step script text
 
 -- the bytes have this first fault
 pub record HasFault (bytes text : List ℕ) : Type 0 where
@@ -66,18 +52,18 @@ pub record HasFault (bytes text : List ℕ) : Type 0 where
   pub first : script_fault bytes ≡ Some found
   pub printed : text ≡ script_fault_text found
 
--- the bytes spell a script of several primaries or sessions, which isn't built
-pub record IsNotBuilt (bytes text : List ℕ) : Type 0 where
-  pub script : Script
-  pub spelled : Spells bytes script
-  pub several : IsPlain script → ⊥
-  pub printed : text ≡ not_built_text
-
 -- the bytes read, which are all or the first 1,048,577, are refused as a script
 pub record RefusesItsScript (source : SourceUse) (text : List ℕ) : Type 0 where
   pub bytes : List ℕ
   pub read : ReadUpToTheBound source.left bytes
-  pub refused : HasFault bytes text ⊎ IsNotBuilt bytes text
+  pub refused : HasFault bytes text
+
+-- a refusal of a run for what the disks hold, and not for a disk that failed or for want of memory
+abbrev pub IsOfHeld : ClusterRefusal → Type 0
+IsOfHeld cluster.StoreDisk = ⊥
+IsOfHeld (cluster.LogDisk primary) = ⊥
+IsOfHeld cluster.Memory = ⊥
+IsOfHeld refusal = Unit {0}
 
 -- a refusal of recovery for what the disks hold, and not for a disk that failed or for want of memory
 abbrev pub IsOfContent : RecoverRefusal → Type 0
@@ -85,14 +71,6 @@ IsOfContent recover.StoreDisk = ⊥
 IsOfContent (recover.LogDisk primary) = ⊥
 IsOfContent recover.Memory = ⊥
 IsOfContent refusal = Unit {0}
-
--- when `step` ends with a status, and its text; with no other status it ends
-abbrev pub StepSays : SourceUse → Status → List ℕ → Type 0
-StepSays source Done text = AnswersItsScript source text
-StepSays source BadScript text = RefusesItsScript source text
-StepSays source Source text = Rose source.faults source.faults_after × (text ≡ source_fault_text)
-StepSays source Memory text = text ≡ no_memory_text
-StepSays source _ text = ⊥
 
 module _ {D : Type 0} (g : Ghosts D) where
   -- the text is that of the store, which is of the grammar; of a disk that doesn't tell its bytes nothing is said
@@ -197,9 +175,45 @@ module _ {D : Type 0} (g : Ghosts D) where
   LogsSays old new Memory text = text ≡ no_memory_text
   LogsSays old new _ text = ⊥
 
+  -- the text is that of a readable transcript of a mode, legal for the script over what the disks held, with no primary down
+  pub record PrintsLegal (in_mode : Mode) (disks : Disks D) (script : Script) (text : List ℕ) : Type 0 where
+    pub transcript : Transcript
+    pub mode : transcript.mode ≡ in_mode
+    pub up : transcript.downs.items ≡ []
+    pub legal : IsLegalRun g disks script transcript
+    pub readable : IsReadable transcript
+    pub printed : text ≡ transcript_text transcript
+
+  -- the source was read to its end, the bytes read spell a script that may begin over what the disks held, and it is answered
+  pub record AnswersItsScript (source : SourceUse) (disks : Disks D) (text : List ℕ) : Type 0 where
+    pub script : Script
+    pub reads : ReadsScript source script
+    pub began : AllTell g disks → MayBegin (as_read g disks) (transactions_of script)
+    pub answered : PrintsLegal mode.Step disks script text
+
+  -- what the disks hold is refused for a script's run for what is printed, which comes first, and they are left as they were
+  pub record RefusesTheRun (source : SourceUse) (old new : Disks D) (text : List ℕ) : Type 0 where
+    pub script : Script
+    pub reads : ReadsScript source script
+    pub refusal : ClusterRefusal
+    pub content : IsOfHeld refusal
+    pub first : AllTell g old → RefusesRun (as_read g old) (transactions_of script) refusal
+    pub kept : KeptNine g old new
+    pub printed : text ≡ run_refused_text refusal
+
+  -- when `step` ends with a status, and its text; with no other status it ends
+  abbrev pub StepSays : SourceUse → Disks D → Disks D → Status → List ℕ → Type 0
+  StepSays source old new Done text = AnswersItsScript source old text
+  StepSays source old new BadScript text = RefusesItsScript source text
+  StepSays source old new Store text = RefusesTheRun source old new text
+  StepSays source old new Source text = Rose source.faults source.faults_after × (text ≡ source_fault_text)
+  StepSays source old new Disk text = NamesFailed old new text
+  StepSays source old new Memory text = text ≡ no_memory_text
+  StepSays source old new _ text = ⊥
+
   -- when a command ends with a status, and its text
   abbrev pub CommandSays : Command → SourceUse → Disks D → Disks D → Status → List ℕ → Type 0
-  CommandSays (Session Step) source old new = StepSays source
+  CommandSays (Session Step) source old new = StepSays source old new
   CommandSays (Plain Init) source old new = InitSays old new
   CommandSays (Plain Recover) source old new = RecoverSays old new
   CommandSays (Plain Dump) source old new = DumpSays old.store new.store

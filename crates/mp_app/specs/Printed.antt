@@ -1,9 +1,12 @@
 -- What the functions behind the call print: a status with its text.
 use Rattle.std.specs.Prelude.{◌≡◌, ◌⊎◌, ℕ, List}
+use Rattle.mp_model.specs.declared.transcripts.Transcript.{Transcript}
 use Rattle.mp_script.specs.Faults.{FaultAt}
 use Rattle.mp_commands.specs.declared.faults.DiskFault.{DiskFault}
 use Rattle.mp_commands.specs.declared.refusals.LogsRefusal.{LogsRefusal}
 use Rattle.mp_commands.specs.declared.refusals.LogsRefusal.TheVariants.{Log, LogDisk, Memory as NoLogsMemory}
+use Rattle.mp_opening.specs.declared.refusals.ClusterRefusal.{ClusterRefusal}
+use Rattle.mp_opening.specs.declared.refusals.ClusterRefusal.TheVariants as cluster
 use Rattle.mp_recover.specs.declared.recovering.Recovered.{Recovered}
 use Rattle.mp_recover.specs.declared.refusals.RecoverRefusal.{RecoverRefusal}
 use Rattle.mp_recover.specs.declared.refusals.RecoverRefusal.TheVariants as recover
@@ -14,8 +17,9 @@ use Rattle.mp_app.specs.declared.commands.WordsRefusal.TheVariants.{Usage as Not
 use Rattle.mp_app.specs.declared.output.Output.{Output}
 use Rattle.mp_app.specs.declared.status.Status.{Status}
 use Rattle.mp_app.specs.declared.status.Status.TheVariants.{Done, Usage, Script, Store, Disk, Memory}
+use Rattle.mp_report.specs.Transcripts.{transcript_text}
 use Rattle.mp_app.specs.Recoveries.{recovered_text}
-use Rattle.mp_app.specs.Texts.{usage_text, script_fault_text, store_refused_text, store_failed_text, log_failed_text, log_refused_text, disk_failed_text, recovery_refused_text, no_memory_text}
+use Rattle.mp_app.specs.Texts.{usage_text, script_fault_text, store_refused_text, store_failed_text, log_failed_text, log_refused_text, disk_failed_text, recovery_refused_text, run_refused_text, unclean_text, no_memory_text}
 use Rattle.mp_app.specs.declared.output.Printed.{Printed as PrintedText}
 use Rattle.mp_app.specs.declared.output.Printed.TheVariants.{Fixed, Made}
 
@@ -71,3 +75,15 @@ PrintsRecovered made = PrintsOrNoMemory Done (recovered_text made)
 abbrev pub PrintsWordsRefusal : WordsRefusal → Output → Type 0
 PrintsWordsRefusal NotRead = Prints Usage usage_text
 PrintsWordsRefusal NoMemory = Prints Memory no_memory_text
+
+-- what a run's transcript is printed as
+abbrev pub PrintsTranscript : Transcript → Output → Type 0
+PrintsTranscript transcript = PrintsOrNoMemory Done (transcript_text transcript)
+
+-- what a refusal of a run is printed as
+abbrev pub PrintsRunRefusal : ClusterRefusal → Output → Type 0
+PrintsRunRefusal cluster.StoreDisk = Prints Disk store_failed_text
+PrintsRunRefusal (cluster.LogDisk primary) = PrintsLogFailed primary
+PrintsRunRefusal cluster.NotClean = Prints Store unclean_text
+PrintsRunRefusal cluster.Memory = Prints Memory no_memory_text
+PrintsRunRefusal refusal = PrintsOrNoMemory Store (run_refused_text refusal)

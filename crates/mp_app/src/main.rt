@@ -1,5 +1,5 @@
-//! The program `mp`: several primaries over one page store. So far it runs scripts of one session, makes a store
-//! with its logs, recovers them after a crash, and prints the store's pages and the logs' mtrs.
+//! The program `mp`: several primaries over one page store. It makes a store with its logs, runs scripts of several
+//! sessions on one thread, recovers after a crash, and prints the store's pages and the logs' mtrs.
 #![tactic(auto)]
 
 ghost use Rattle.std.specs.Prelude.{◌≢◌, IfErr};
@@ -27,6 +27,7 @@ pub use plain::plain_call;
 pub use session::session_call;
 pub use status::Status;
 use std::process::ExitCode;
+use std::sync::Wait;
 use std::{env, io};
 pub use top::top;
 use words::read_words;
@@ -34,21 +35,22 @@ use words::read_words;
 fn main(rt: HostRuntime) -> ExitCode {
     let mut sink = StdSink::new(rt);
     let status = match words_of(&rt) {
-        Ok(words) => call(rt, &words, &mut sink),
+        Ok(words) => call(&rt, rt, &words, &mut sink),
         Err(output) => print(&output, &mut sink),
     };
     ExitCode::from(status.code())
 }
 
-// Does what the words ask for, over the files of the current folder. Words that are no command make no files.
-fn call(rt: HostRuntime, words: &[String], sink: &mut StdSink) -> Status {
+// Does what the words ask for, over the files of the current folder; a run waits by `waits`. Words that are no command
+// make no files.
+fn call<R: Wait>(waits: &R, rt: HostRuntime, words: &[String], sink: &mut StdSink) -> Status {
     if let Err(refusal) = read_words(rt.alloc(), words) {
         return print(&Output::words_refusal(refusal), sink);
     }
     match open_disks(rt) {
         Ok(mut disks) => {
             let mut source = StdSource::new(rt);
-            top(rt.alloc(), words, &mut source, sink, &mut disks)
+            top(waits, rt.alloc(), words, &mut source, sink, &mut disks)
         }
         Err(output) => print(&output, sink),
     }

@@ -4,12 +4,13 @@ ghost use Rattle.std.specs.Prelude.{◌≡◌, ◌≢◌, IfOk, MatchResult};
 ghost use Rattle.std.specs.Io.KnownBytes.{Appends};
 ghost use Rattle.mp_outside.specs.Faults.{Rose};
 ghost use Rattle.mp_outside.specs.Sinks.{AppendsFront};
-ghost use Rattle.mp_app.specs.Printed.{text_of, Prints, PrintsFault, PrintsStoreRefusal, PrintsLogFailed, PrintsDiskFault, PrintsLogsRefusal, PrintsRecoverRefusal, PrintsRecovered, PrintsWordsRefusal};
-ghost use Rattle.mp_app.specs.Texts.{usage_text, not_built_text, script_fault_text, source_fault_text, store_refused_text, store_failed_text, log_failed_text, log_refused_text, gap_text, unfit_change_text, spent_generations_text, ready_text, no_memory_text};
+ghost use Rattle.mp_app.specs.Printed.{text_of, Prints, PrintsFault, PrintsStoreRefusal, PrintsLogFailed, PrintsDiskFault, PrintsLogsRefusal, PrintsRecoverRefusal, PrintsRecovered, PrintsRunRefusal, PrintsWordsRefusal};
+ghost use Rattle.mp_app.specs.Texts.{usage_text, script_fault_text, source_fault_text, store_refused_text, store_failed_text, log_failed_text, log_refused_text, gap_text, unfit_change_text, needs_recover_text, spent_text, spent_word, unclean_text, ready_text, no_memory_text};
 
 use crate::commands::WordsRefusal;
 use crate::recoveries::print_recovered;
 use crate::status::Status;
+use mp_cluster::{ClusterRefusal, SpentNumber};
 use mp_commands::{DiskFault, LogsRefusal};
 use mp_model::{Memory, Text};
 use mp_outside::{Sink, write_all};
@@ -59,13 +60,6 @@ impl Output {
         ensures { PrintsFault (record { fault = fault; line = line }) result }
     {
         Output::made(Status::Script, fault_text(alloc, fault, line))
-    }
-
-    /// The script is of several primaries or sessions, which isn't built.
-    pub fn not_built() -> Output
-        ensures { Prints Status.Script not_built_text result }
-    {
-        Output::fixed(Status::Script, b"refused script not built\n")
     }
 
     /// The source failed.
@@ -146,8 +140,36 @@ impl Output {
             RecoverRefusal::NotApplicable { page, llsn } => {
                 Output::made(Status::Store, change_text(alloc, page, llsn))
             }
-            RecoverRefusal::Spent { base } => Output::made(Status::Store, spent_text(alloc, base)),
+            RecoverRefusal::Spent { base } => Output::made(
+                Status::Store,
+                spent_text(alloc, SpentNumber::Generations, base, 1),
+            ),
             RecoverRefusal::Memory => Output::no_memory(),
+        }
+    }
+
+    /// A run is refused.
+    pub fn run_refusal(alloc: Global, refusal: ClusterRefusal) -> Output
+        ensures { PrintsRunRefusal refusal result }
+    {
+        match refusal {
+            ClusterRefusal::Store { place } => Output::made(
+                Status::Store,
+                place_text(alloc, place),
+            ),
+            ClusterRefusal::StoreDisk => Output::store_failed(),
+            ClusterRefusal::Log { primary, place } => {
+                Output::made(Status::Store, log_place_text(alloc, primary, place))
+            }
+            ClusterRefusal::LogDisk { primary } => Output::log_failed(alloc, primary),
+            ClusterRefusal::NeedsRecover { primary, llsn } => {
+                Output::made(Status::Store, needs_recover_text(alloc, primary, llsn))
+            }
+            ClusterRefusal::NotClean => Output::fixed(Status::Store, b"refused unclean store\n"),
+            ClusterRefusal::Spent { what, base, add } => {
+                Output::made(Status::Store, spent_text(alloc, what, base, add))
+            }
+            ClusterRefusal::Memory => Output::no_memory(),
         }
     }
 
@@ -275,9 +297,28 @@ fn change_text(alloc: Global, page: u16, llsn: u64) -> Result<Text, AllocError>
     Ok(Text::from_vec(text.into_bytes()))
 }
 
-fn spent_text(alloc: Global, base: u64) -> Result<Text, AllocError>
-    ensures { IfOk result (λ text. text.items ≡ spent_generations_text base) }
+fn needs_recover_text(alloc: Global, primary: u8, llsn: u64) -> Result<Text, AllocError>
+    ensures { IfOk result (λ text. text.items ≡ needs_recover_text primary llsn) }
 {
-    let text = format!(in alloc; "refused spent generations base {base} add 1\n")?;
+    let text = format!(in alloc; "refused recover primary {primary} llsn {llsn}\n")?;
+    Ok(Text::from_vec(text.into_bytes()))
+}
+
+fn spent_word(what: SpentNumber) -> &'static str
+    ensures { result.now ≡ spent_word what }
+{
+    match what {
+        SpentNumber::Generations => "generations",
+        SpentNumber::Versions => "versions",
+        SpentNumber::Timestamps => "timestamps",
+        SpentNumber::Llsn => "llsn",
+    }
+}
+
+fn spent_text(alloc: Global, what: SpentNumber, base: u64, add: u64) -> Result<Text, AllocError>
+    ensures { IfOk result (λ text. text.items ≡ spent_text what base add) }
+{
+    let word = spent_word(what);
+    let text = format!(in alloc; "refused spent {word} base {base} add {add}\n")?;
     Ok(Text::from_vec(text.into_bytes()))
 }

@@ -5,7 +5,7 @@ ghost use Rattle.std.specs.Io.KnownBytes.{Appends};
 ghost use Rattle.mp_outside.specs.Faults.{Rose};
 ghost use Rattle.mp_outside.specs.Sinks.{AppendsFront};
 ghost use Rattle.mp_outside.specs.Sources.{TakesUpTo};
-ghost use Rattle.mp_files.specs.Nine.{StillNine, KeptNine};
+ghost use Rattle.mp_files.specs.Nine.{StillNine, KeptDisk, KeptNine};
 ghost use Rattle.mp_commands.specs.Fresh.{Made};
 ghost use Rattle.mp_app.specs.declared.commands.Command.{Command};
 ghost use Rattle.mp_app.specs.declared.commands.Command.TheVariants.{Session, Plain};
@@ -23,19 +23,22 @@ use crate::words::read_words;
 use mp_files::Disks;
 use mp_outside::{Disk, Sink, Source};
 use std::alloc::Global;
+use std::sync::Wait;
 
-/// Does what the words after the program's name ask for. `step` reads a script from the source to its end, answers it
-/// over a fresh store, and prints the transcript. `init` makes the disks a fresh store and eight logs without batches,
-/// and prints `ready`. `recover` makes the disks clean after a crash, and prints the rows that are left. `dump` prints the
-/// pages of the store, `logs` the mtrs of the logs.
+/// Does what the words after the program's name ask for. `step` reads a script from the source to its end, runs its
+/// sessions by its primaries over the store and the logs, and prints the transcript. `init` makes the disks a fresh store
+/// and eight logs without batches, and prints `ready`. `recover` makes the disks clean after a run or a crash, and prints
+/// the rows that are left. `dump` prints the pages of the store, `logs` the mtrs of the logs.
 ///
-/// There are eight logs, before and after. Only `step` reads the source, at most 1,048,577 bytes of it, and only `init` and
-/// `recover` change disks. Where `init` ends with another status than 0, nothing is promised of their content but that
-/// they can be initialised again; where `recover` ends with 3, they are as they were. The text is made whole before its
-/// first byte is written, and it is written once.
+/// There are eight logs, before and after. Only `step` reads the source, at most 1,048,577 bytes of it, and it isn't
+/// promised to return. Only `init` and `recover` change the store, and only these and `step` the logs: `step` writes the
+/// mtrs of its run, and needs `recover` or `init` before the next one that may begin. Where `init` ends with another status
+/// than 0, nothing is promised of the content of disks but that they can be initialised again; where `recover` or `step`
+/// ends with 3, they are as they were. The text is made whole before its first byte is written, and it is written once.
 ///
 /// `docs/language.md` says what each status means and which text goes with it.
-pub fn top<S: Source, K: Sink, D: Disk>(
+pub fn top<R: Wait, S: Source, K: Sink, D: Disk + Drop>(
+    rt: &R,
     alloc: Global,
     words: &[String],
     source: &mut S,
@@ -66,16 +69,21 @@ pub fn top<S: Source, K: Sink, D: Disk>(
     // Where `recover` does, over sound disks, each image is clean and has the kept commits.
     ensures recovered { result ≡ Status.Done → Names (map string_bytes words.now) (Plain PlainCommand.Recover)
         → Recovers D.Disk disks.old disks.new }
-    // What refuses the content of disks leaves them, and so does every command but these two.
+    // What refuses the content of disks leaves them, and so does every command but these two and `step`, which leaves
+    // the store.
     ensures refused { result ≡ Status.Store → KeptNine D.Disk disks.old disks.new }
     ensures untouched { ¬ Names (map string_bytes words.now) (Plain PlainCommand.Init)
-        → ¬ Names (map string_bytes words.now) (Plain PlainCommand.Recover) → KeptNine D.Disk disks.old disks.new }
+        → ¬ Names (map string_bytes words.now) (Plain PlainCommand.Recover)
+        → ¬ Names (map string_bytes words.now) (Session SessionCommand.Step) → KeptNine D.Disk disks.old disks.new }
+    ensures store { ¬ Names (map string_bytes words.now) (Plain PlainCommand.Init)
+        → ¬ Names (map string_bytes words.now) (Plain PlainCommand.Recover) → KeptDisk D.Disk disks.old.store disks.new.store }
 {
-    call(alloc, words, source, sink, disks)
+    call(rt, alloc, words, source, sink, disks)
 }
 
 // The same, but for what follows from it: that a command without a fault is done.
-fn call<S: Source, K: Sink, D: Disk>(
+fn call<R: Wait, S: Source, K: Sink, D: Disk + Drop>(
+    rt: &R,
     alloc: Global,
     words: &[String],
     source: &mut S,
@@ -98,10 +106,13 @@ fn call<S: Source, K: Sink, D: Disk>(
         → Recovers D.Disk disks.old disks.new }
     ensures refused { result ≡ Status.Store → KeptNine D.Disk disks.old disks.new }
     ensures untouched { ¬ Names (map string_bytes words.now) (Plain PlainCommand.Init)
-        → ¬ Names (map string_bytes words.now) (Plain PlainCommand.Recover) → KeptNine D.Disk disks.old disks.new }
+        → ¬ Names (map string_bytes words.now) (Plain PlainCommand.Recover)
+        → ¬ Names (map string_bytes words.now) (Session SessionCommand.Step) → KeptNine D.Disk disks.old disks.new }
+    ensures store { ¬ Names (map string_bytes words.now) (Plain PlainCommand.Init)
+        → ¬ Names (map string_bytes words.now) (Plain PlainCommand.Recover) → KeptDisk D.Disk disks.old.store disks.new.store }
 {
     match read_words(alloc, words) {
-        Ok(Command::Session(command)) => session_call(alloc, &command, source, sink, disks),
+        Ok(Command::Session(command)) => session_call(rt, alloc, &command, source, sink, disks),
         Ok(Command::Plain(command)) => plain_call(alloc, &command, source, sink, disks),
         Err(refusal) => print(&Output::words_refusal(refusal), sink),
     }

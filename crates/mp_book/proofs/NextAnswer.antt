@@ -24,8 +24,7 @@ use Rattle.mp_script.specs.Below.{answered, stated}
 use Rattle.mp_script.specs.InTheirPart.{belongs, IsNextStatement}
 use Rattle.mp_script.specs.Spelling.{MayStand}
 use Rattle.mp_script.specs.WentDown.{shows_down, is_stopped}
-use Rattle.mp_script.proofs.PlainGood.{begin_within}
-use Rattle.mp_script.proofs.PlainInside.{begins_not}
+use Rattle.mp_script.proofs.BeginsWithin.{begin_within, begins_not}
 use Rattle.mp_cells.specs.declared.rows.Row.{Row}
 use Rattle.mp_cells.specs.Trees.{row_at}
 use Rattle.mp_core_trx.specs.declared.part.Begun.{Begun}

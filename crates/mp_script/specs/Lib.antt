@@ -22,9 +22,6 @@ pub mod WorkedViews
 pub mod WorkedKeys
 pub mod WorkedDowns
 pub mod WorkedParts
-pub mod Plain
-pub mod PlainState
-pub mod OneSession
 pub mod Drafts
 pub mod Readings
 pub mod Standing

@@ -6,7 +6,6 @@ mod drafts;
 mod entries;
 mod examples;
 mod laws;
-mod plain;
 mod printing;
 mod reading;
 mod statements;
@@ -15,7 +14,6 @@ mod worked;
 
 pub use examples::{law_examples, law_word_examples};
 pub use laws::{law_one_script, law_value_in_view};
-pub use plain::answer_plainly;
 pub use printing::{print, push_numbered};
 pub use reading::{ScriptRefusal, parse};
 pub use statements::{Line, Lines, Script, SessionOn, Sessions, Stmt};

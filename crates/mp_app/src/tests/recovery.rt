@@ -4,15 +4,13 @@ ghost use Rattle.std.specs.Prelude.{◌≡◌, IfOk, length};
 
 use crate::status::Status;
 use crate::tests::log_bytes::{RecordBytes, Version, push_commit, push_mtr};
-use crate::tests::{Ran, disks_of, run};
+use crate::tests::{BOTH, Ran, fresh, run};
 use mp_files::Disks;
 use mp_model::Memory;
 use mp_outside::{Disk, MemDisk};
 use std::alloc::Global;
+use std::sync::Wait;
 use std::test::Fail;
-
-/// The bytes of a store.
-const STORE: u64 = 8_519_808;
 
 /// The rows that the first transactions of primaries 1 and 2 put.
 const ROW_A: Version = Version {
@@ -31,9 +29,7 @@ const ROW_B: Version = Version {
     link: 0x30,
 };
 
-// Their logs give these rows, and a store that has them gives them again.
-const BOTH: &str = "recovered base 2 kept 2 undone 0\nrow 1 a\nrow 2 b\nend rows 2\n";
-
+// Their logs give both rows, and a store that has them gives them again.
 const AGAIN: &str = "recovered base 2 kept 0 undone 0\nrow 1 a\nrow 2 b\nend rows 2\n";
 
 const NOTHING: &str = "recovered base 0 kept 0 undone 0\nend rows 0\n";
@@ -91,21 +87,25 @@ fn filled(alloc: Global, bytes: &[u8], fails: &[u32]) -> Result<MemDisk, Memory>
 }
 
 // A fresh store, logs 1 and 2 as they are given, and six without batches.
-fn nine(alloc: Global, first: &[u8], second: &[u8]) -> Result<Disks<MemDisk>, Memory>
+fn nine<R: Wait>(
+    rt: &R,
+    alloc: Global,
+    first: &[u8],
+    second: &[u8],
+) -> Result<Disks<MemDisk>, Memory>
     ensures { IfOk result (λ disks. length disks.logs.items ≡ 8) }
 {
-    let mut disks = disks_of(alloc, MemDisk::new(alloc, &[], STORE, &[])?)?;
-    run(alloc, &["init"], &[], &mut disks)?;
+    let mut disks = fresh(rt, alloc)?;
     disks.logs[0] = filled(alloc, first, &[])?;
     disks.logs[1] = filled(alloc, second, &[])?;
     Ok(disks)
 }
 
-fn recovered(alloc: Global, disks: &mut Disks<MemDisk>) -> Result<Ran, Memory>
+fn recovered<R: Wait>(rt: &R, alloc: Global, disks: &mut Disks<MemDisk>) -> Result<Ran, Memory>
     requires { length disks.old.logs.items ≡ 8 }
     ensures { length disks.new.logs.items ≡ 8 }
 {
-    run(alloc, &["recover"], &[], disks)
+    run(rt, alloc, &["recover"], &[], disks)
 }
 
 #[test]
@@ -128,8 +128,8 @@ fn logs_are_recovered(rt: HostRuntime) -> Result<(), Fail> {
         (&first, &[], Status::Store, "refused log 2 place 0\n"),
     ];
     for (one, two, status, printed) in rows {
-        let mut disks = nine(alloc, one, two)?;
-        assert!(rt; recovered(alloc, &mut disks)?.is(status, printed));
+        let mut disks = nine(&rt, alloc, one, two)?;
+        assert!(rt; recovered(&rt, alloc, &mut disks)?.is(status, printed));
     }
     Ok(())
 }
@@ -193,24 +193,24 @@ const SPLIT: &str =
 fn a_split_root_is_recovered(rt: HostRuntime) -> Result<(), Fail> {
     let alloc = rt.alloc();
     let log = sixteen_puts(alloc)?;
-    let mut disks = nine(alloc, &log, &[0])?;
-    assert!(rt; recovered(alloc, &mut disks)?.status == Status::Done);
-    assert!(rt; run(alloc, &["dump"], &[], &mut disks)?.is(Status::Done, SPLIT));
+    let mut disks = nine(&rt, alloc, &log, &[0])?;
+    assert!(rt; recovered(&rt, alloc, &mut disks)?.status == Status::Done);
+    assert!(rt; run(&rt, alloc, &["dump"], &[], &mut disks)?.is(Status::Done, SPLIT));
     Ok(())
 }
 
 // Both logs, the first on a disk that fails from a call on; and again, with that log on a whole disk.
-fn stopped(alloc: Global, from: u32) -> Result<(Ran, Ran), Memory> {
+fn stopped<R: Wait>(rt: &R, alloc: Global, from: u32) -> Result<(Ran, Ran), Memory> {
     let first = first_log(alloc)?;
-    let mut disks = nine(alloc, &first, &second_log(alloc, true)?)?;
+    let mut disks = nine(rt, alloc, &first, &second_log(alloc, true)?)?;
     let mut fails = Vec::new(alloc);
     for more in 0..32u32 {
         fails.push(from.saturating_add(more))?;
     }
     disks.logs[0] = filled(alloc, &first, &fails)?;
-    let ran = recovered(alloc, &mut disks)?;
+    let ran = recovered(rt, alloc, &mut disks)?;
     disks.logs[0] = filled(alloc, &first, &[])?;
-    Ok((ran, recovered(alloc, &mut disks)?))
+    Ok((ran, recovered(rt, alloc, &mut disks)?))
 }
 
 // The disk of log 1 fails from a call on. Call 1 syncs it, the next 20 read it twice, and 22 to 27 empty it, of which
@@ -219,7 +219,7 @@ fn stopped(alloc: Global, from: u32) -> Result<(Ran, Ran), Memory> {
 fn a_stopped_recovery_is_done_again(rt: HostRuntime) -> Result<(), Fail> {
     let rows = [(21, BOTH), (24, AGAIN)];
     for (from, printed) in rows {
-        let (ran, again) = stopped(rt.alloc(), from)?;
+        let (ran, again) = stopped(&rt, rt.alloc(), from)?;
         assert!(rt; ran.is(Status::Disk, "fault disk log 1\n"));
         assert!(rt; again.is(Status::Done, printed));
     }
@@ -245,14 +245,14 @@ fn damaged_disks_are_refused(rt: HostRuntime) -> Result<(), Fail> {
         (16, &[255; 8], &[0], Status::Done, NOTHING),
     ];
     for (place, bytes, log, status, printed) in rows {
-        let mut disks = nine(alloc, log, &[0])?;
+        let mut disks = nine(&rt, alloc, log, &[0])?;
         assert!(rt; disks.store.write_at(place, bytes).is_ok());
-        assert!(rt; recovered(alloc, &mut disks)?.is(status, printed));
+        assert!(rt; recovered(&rt, alloc, &mut disks)?.is(status, printed));
     }
-    let mut disks = nine(alloc, &[0], &[0])?;
+    let mut disks = nine(&rt, alloc, &[0], &[0])?;
     disks.logs[2] = filled(alloc, &[], &[])?;
-    assert!(rt; recovered(alloc, &mut disks)?.is(Status::Store, "refused log 3 place 0\n"));
+    assert!(rt; recovered(&rt, alloc, &mut disks)?.is(Status::Store, "refused log 3 place 0\n"));
     disks.store = filled(alloc, &[], &[])?;
-    assert!(rt; recovered(alloc, &mut disks)?.is(Status::Store, "refused store place 0\n"));
+    assert!(rt; recovered(&rt, alloc, &mut disks)?.is(Status::Store, "refused store place 0\n"));
     Ok(())
 }

@@ -1,22 +1,16 @@
--- Each answer of the parser gives its status and text.
-use Rattle.mp_script.proofs.Alone.{alone}
-use Rattle.mp_app.proofs.Bytes.{says_script, says_not_built, says_fault, says_memory}
+-- Each answer of the parser gives its status and text; where it is a refusal, the disks are left alone.
+use Rattle.mp_files.proofs.Nines.{KeptDisk-refl, StillNine-refl}
+use Rattle.mp_app.proofs.Bytes.{says_script, says_fault, says_memory}
 use Rattle.mp_app.proofs.session.answer_bytes.Goals as goal
 
-pub answer_script-requires-clause-alone : goal.answer_script-requires-clause-alone
-answer_script-requires-clause-alone c = alone c.args.bytes.now c.in-Ok.script c.in-Ok.ensures.found (c.is_plain.ensures.yes c.if-is_plain.true)
-
 pub answer_script-requires-clause-spelled : goal.answer_script-requires-clause-spelled
-answer_script-requires-clause-spelled c = (c.args.bytes.now, c.in-Ok.ensures.found)
+answer_script-requires-clause-spelled g c = (c.args.bytes.now, c.in-Ok.ensures.found)
 
-pub returns-in-Ok : goal.returns-in-Ok
-returns-in-Ok c = says_script c.args.bytes.now c.in-Ok.script _ _ c.in-Ok.ensures.found (c.is_plain.ensures.yes c.if-is_plain.true) c.answer_script.ensures
+pub returns-in-Ok-clause-says : goal.returns-in-Ok-clause-says
+returns-in-Ok-clause-says g c = says_script g.D.Disk c.args.bytes.now c.in-Ok.script c.args.disks.now c.answer_script.new.disks _ _ c.in-Ok.ensures.found c.answer_script.ensures.says
 
-pub returns-in-Ok-2 : goal.returns-in-Ok-2
-returns-in-Ok-2 c = says_not_built c.args.bytes.now c.in-Ok.script c.not_built.result c.not_built.ensures c.in-Ok.ensures.found (c.is_plain.ensures.no c.if-is_plain.false)
+pub returns-in-Err-Fault-clause-says : goal.returns-in-Err-Fault-clause-says
+returns-in-Err-Fault-clause-says g c = says_fault g.D.Disk c.args.bytes.now _ c.args.disks.now c.script_fault.result c.script_fault.ensures (rw c.in-Err-Fault.field-0-is at c.in-Err-Fault.ensures.fault)
 
-pub returns-in-Err-Fault : goal.returns-in-Err-Fault
-returns-in-Err-Fault c = says_fault c.args.bytes.now _ c.script_fault.result c.script_fault.ensures (rw c.in-Err-Fault.field-0-is at c.in-Err-Fault.ensures-1.fault)
-
-pub returns-in-Err-Memory : goal.returns-in-Err-Memory
-returns-in-Err-Memory c = says_memory c.args.bytes.now c.no_memory.result c.no_memory.ensures
+pub returns-in-Err-Memory-clause-says : goal.returns-in-Err-Memory-clause-says
+returns-in-Err-Memory-clause-says g c = says_memory g.D.Disk c.args.bytes.now c.args.disks.now c.no_memory.result c.no_memory.ensures

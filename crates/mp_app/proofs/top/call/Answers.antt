@@ -1,7 +1,6 @@
 -- The words name the command that is called, and what it says is said; without one the disks are left alone.
 use Rattle.std.proofs.Common.{◌∙◌, map, string_bytes, refl, sym, subst}
-use Rattle.mp_files.specs.Nine.{KeptNine, StillNine}
-use Rattle.mp_files.proofs.Nines.{KeptNine-refl, StillNine-refl}
+use Rattle.mp_files.proofs.Nines.{KeptDisk-refl, KeptNine-refl, StillNine-refl}
 use Rattle.mp_app.specs.declared.commands.Command.TheVariants.{Session, Plain}
 use Rattle.mp_app.specs.declared.commands.PlainCommand.{PlainCommand}
 use Rattle.mp_app.specs.declared.commands.PlainCommand.TheVariants.{Init, Recover}
@@ -36,17 +35,8 @@ returns-in-Ok-Session-clause-unread g c = λ not_step.
     absurd (not_step (session_once (map string_bytes c.args.words.now) c.in-Ok-Session.command (rw c.in-Ok-Session.field-0-is at c.in-Ok-Session.ensures)))
 
 -- and the disks are touched by the others alone
-pub returns-in-Ok-Session-clause-nine : goal.returns-in-Ok-Session-clause-nine
-returns-in-Ok-Session-clause-nine g c = subst (λ disks. StillNine g.D.Disk c.args.disks.now disks) (sym c.session_call.ensures.untouched) (StillNine-refl g.D.Disk c.args.disks.now)
-
 pub returns-in-Err-clause-nine : goal.returns-in-Err-clause-nine
 returns-in-Err-clause-nine g c = StillNine-refl g.D.Disk c.args.disks.now
-
-pub returns-in-Ok-Session-clause-untouched : goal.returns-in-Ok-Session-clause-untouched
-returns-in-Ok-Session-clause-untouched g c = λ not_init not_recover. subst (λ disks. KeptNine g.D.Disk c.args.disks.now disks) (sym c.session_call.ensures.untouched) (KeptNine-refl g.D.Disk c.args.disks.now)
-
-pub returns-in-Err-clause-untouched : goal.returns-in-Err-clause-untouched
-returns-in-Err-clause-untouched g c = λ not_init not_recover. KeptNine-refl g.D.Disk c.args.disks.now
 
 pub returns-in-Ok-Session-clause-ready : goal.returns-in-Ok-Session-clause-ready
 returns-in-Ok-Session-clause-ready g c = λ done init. session_not_plain (map string_bytes c.args.words.now) c.in-Ok-Session.command Init (rw c.in-Ok-Session.field-0-is at c.in-Ok-Session.ensures) init
@@ -54,12 +44,6 @@ returns-in-Ok-Session-clause-ready g c = λ done init. session_not_plain (map st
 pub returns-in-Ok-Plain-clause-ready : goal.returns-in-Ok-Plain-clause-ready
 returns-in-Ok-Plain-clause-ready g c = λ done init.
     c.plain_call.ensures.ready done (plain_once (map string_bytes c.args.words.now) c.in-Ok-Plain.command Init (rw c.in-Ok-Plain.field-0-is at c.in-Ok-Plain.ensures) init)
-
-pub returns-in-Ok-Plain-clause-untouched : goal.returns-in-Ok-Plain-clause-untouched
-returns-in-Ok-Plain-clause-untouched g c = λ not_init not_recover.
-    let named = rw c.in-Ok-Plain.field-0-is at c.in-Ok-Plain.ensures in
-    c.plain_call.ensures.untouched (λ is. not_init (subst (λ (k : PlainCommand). Names (map string_bytes c.args.words.now) (Plain k)) is named))
-    (λ is. not_recover (subst (λ (k : PlainCommand). Names (map string_bytes c.args.words.now) (Plain k)) is named))
 
 pub returns-in-Err-clause-ready : goal.returns-in-Err-clause-ready
 returns-in-Err-clause-ready g c = λ done init.
@@ -76,8 +60,30 @@ pub returns-in-Err-clause-recovered : goal.returns-in-Err-clause-recovered
 returns-in-Err-clause-recovered g c = λ done recover.
     refusal_not_done c.in-Err.refusal c.words_refusal.result c.words_refusal.ensures (sym (c.print.ensures.written (done_no_sink c.print.result done)).0 ∙ done)
 
-pub returns-in-Ok-Session-clause-refused : goal.returns-in-Ok-Session-clause-refused
-returns-in-Ok-Session-clause-refused g c = λ refused. subst (λ disks. KeptNine g.D.Disk c.args.disks.now disks) (sym c.session_call.ensures.untouched) (KeptNine-refl g.D.Disk c.args.disks.now)
-
 pub returns-in-Err-clause-refused : goal.returns-in-Err-clause-refused
 returns-in-Err-clause-refused g c = λ refused. KeptNine-refl g.D.Disk c.args.disks.now
+
+pub returns-in-Ok-Session-clause-untouched : goal.returns-in-Ok-Session-clause-untouched
+returns-in-Ok-Session-clause-untouched g c = λ not_init not_recover not_step.
+    absurd (not_step (session_once (map string_bytes c.args.words.now) c.in-Ok-Session.command (rw c.in-Ok-Session.field-0-is at c.in-Ok-Session.ensures)))
+
+pub returns-in-Ok-Plain-clause-untouched : goal.returns-in-Ok-Plain-clause-untouched
+returns-in-Ok-Plain-clause-untouched g c = λ not_init not_recover not_step.
+    let named = rw c.in-Ok-Plain.field-0-is at c.in-Ok-Plain.ensures in
+    c.plain_call.ensures.untouched (λ is. not_init (subst (λ (k : PlainCommand). Names (map string_bytes c.args.words.now) (Plain k)) is named))
+    (λ is. not_recover (subst (λ (k : PlainCommand). Names (map string_bytes c.args.words.now) (Plain k)) is named))
+
+pub returns-in-Err-clause-untouched : goal.returns-in-Err-clause-untouched
+returns-in-Err-clause-untouched g c = λ not_init not_recover not_step. KeptNine-refl g.D.Disk c.args.disks.now
+
+pub returns-in-Ok-Session-clause-store : goal.returns-in-Ok-Session-clause-store
+returns-in-Ok-Session-clause-store g c = λ not_init not_recover. c.session_call.ensures.store
+
+pub returns-in-Ok-Plain-clause-store : goal.returns-in-Ok-Plain-clause-store
+returns-in-Ok-Plain-clause-store g c = λ not_init not_recover.
+    let named = rw c.in-Ok-Plain.field-0-is at c.in-Ok-Plain.ensures in
+    (c.plain_call.ensures.untouched (λ is. not_init (subst (λ (k : PlainCommand). Names (map string_bytes c.args.words.now) (Plain k)) is named))
+    (λ is. not_recover (subst (λ (k : PlainCommand). Names (map string_bytes c.args.words.now) (Plain k)) is named))).store
+
+pub returns-in-Err-clause-store : goal.returns-in-Err-clause-store
+returns-in-Err-clause-store g c = λ not_init not_recover. KeptDisk-refl g.D.Disk c.args.disks.now.store
