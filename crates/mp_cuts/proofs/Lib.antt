@@ -1,0 +1,16 @@
+pub mod Climbing
+pub mod NodeLists
+pub mod OrderedCuts
+pub mod RisingHistories
+pub mod ClosedCuts
+pub mod RedonePages
+pub mod RowsStand
+pub mod WroteLast
+pub mod OnceCommitted
+pub mod RecordedMtrs
+pub mod NothingBack
+pub mod CutHistories
+pub mod Recoverable
+pub mod LeftImages
+pub mod KeptImages
+pub mod Acknowledged

@@ -1,0 +1,2 @@
+pub mod ValidCuts
+pub mod LeftBehind
