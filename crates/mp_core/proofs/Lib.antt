@@ -1,5 +1,6 @@
 pub mod Pages
 pub mod Records
+pub mod Downs
 pub mod Law
 pub mod Placed
 mod Regions

@@ -10,7 +10,8 @@ use Rattle.mp_core_trx.specs.Examples.{two_primaries, first_trx}
 use Rattle.mp_core_pages.specs.declared.event.PagesEvent.TheVariants.{LockWord, TakeFrame, GiveFrame, StoreLlsn, StoreDurable}
 use Rattle.mp_core.specs.declared.opening.CoreOpening.{CoreOpening}
 use Rattle.mp_core.specs.declared.event.CoreEvent.{CoreEvent}
-use Rattle.mp_core.specs.declared.event.CoreEvent.TheVariants.{Trx, Pages}
+use Rattle.mp_core.specs.declared.event.CoreEvent.TheVariants.{Trx, Pages, Down}
+use Rattle.mp_core.specs.declared.event.DownEvent.TheVariants.{StoreDown, LoadDown}
 use Rattle.mp_core.specs.Commits.{commit_records}
 use Rattle.mp_core.specs.World.{core_start, core_part, core_node_of, CoreAllowed, core}
 
@@ -49,3 +50,11 @@ writes_meta = Pages (LockWord 1 0 0 256) ∷ Pages (TakeFrame 1 0) ∷ Pages (Gi
 
 abbrev pub changes_meta : Change → CoreEvent
 changes_meta change = Pages (StoreLlsn 1 record { node = 1; llsn = 1; records = records.Page 0 0 change ∷ [] })
+
+-- a primary goes down with this number
+abbrev pub goes_down_with : ℕ → ℕ → CoreEvent
+goes_down_with p by = Down (StoreDown p by)
+
+-- the second primary goes down by itself, and then the first loads its word
+abbrev pub loads_down_second : List CoreEvent
+loads_down_second = goes_down_with 2 2 ∷ Down (LoadDown 1 2) ∷ []

@@ -1,5 +1,5 @@
 -- What a node's part may become by steps.
-use Rattle.std.specs.Prelude.{◌≡◌, ℕ, ◌<◌, ◌≤◌, ◌⊎◌}
+use Rattle.std.specs.Prelude.{ℕ, ◌<◌, ◌≤◌, ◌⊎◌}
 use Rattle.mp_machine.specs.Lists.{IsIn}
 use Rattle.mp_cells.specs.declared.records.Mtr.{Mtr}
 use Rattle.mp_cells.specs.PageView.{PageView}
@@ -9,6 +9,7 @@ use Rattle.mp_core_pages.specs.declared.part.GivenPage.{GivenPage}
 use Rattle.mp_core_pages.specs.PageParts.{durable_llsn, PagesExtends}
 use Rattle.mp_core.specs.declared.part.CorePart.{CorePart}
 use Rattle.mp_core.specs.OwnMtrs.{TrxMtr, trx_mtrs}
+use Rattle.mp_core.specs.Downs.{DownsExtend}
 
 -- up to which LLSN the node's log is durable
 abbrev pub durable_of : CorePart → ℕ
@@ -26,3 +27,4 @@ pub record CoreExtends (old new : CorePart) : Type 0 where
   pub durable : durable_of old ≤ durable_of new
   pub made_later : (x : TrxMtr) → IsIn x (trx_mtrs new.pages.made) → IsIn x (trx_mtrs old.pages.made) ⊎ IsMadeLater old x.at
   pub given_later : (g : GivenPage PageView) → IsIn g new.pages.given → IsIn g old.pages.given ⊎ ((x : Placed Mtr) → IsIn x old.pages.made → x.at < g.height)
+  pub downs : DownsExtend old.downs new.downs

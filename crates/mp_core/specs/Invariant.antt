@@ -15,6 +15,7 @@ use Rattle.mp_core_pages.specs.PageInvariant.{PagesInv}
 use Rattle.mp_core.specs.declared.opening.CoreOpening.{CoreOpening}
 use Rattle.mp_core.specs.Contents.{page_ops, pages_opening}
 use Rattle.mp_core.specs.Commits.{HasDurableRecord}
+use Rattle.mp_core.specs.Downs.{DownsInv}
 use Rattle.mp_core.specs.World.{CoreWorld}
 
 -- The numbers of the run stay within their formats, and it begins from the pages of a clean store, all of them
@@ -29,8 +30,10 @@ abbrev pub CommitsDurable : ℕ → (ℕ → List SlotRow) → (ℕ → List (Pl
 CommitsDurable base rows made durables = (n slot version cts : ℕ) → shown_at (rows n) slot ≡ shows Committed version cts
     → HasDurableRecord base (made n) (durables n) (trx n slot version) cts
 
--- What holds in every world that can be reached: each component's invariant, and that commits are durable
+-- What holds in every world that can be reached: each component's invariant, that commits are durable, and that who
+-- is down is so with the number of one that went down by itself
 pub record CoreInv (opening : CoreOpening) (w : CoreWorld) : Type 0 where
   pub trx : TrxInv opening.trx w.trx
   pub pages : PagesInv page_ops (pages_opening opening) w.pages
   pub records : CommitsDurable opening.trx.base.llsn (slot_rows_in w.trx) w.pages.made w.pages.durables
+  pub downs : DownsInv opening.trx w.downs

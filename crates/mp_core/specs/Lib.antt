@@ -2,6 +2,7 @@ pub mod Contents
 pub mod OwnMtrs
 pub mod Commits
 pub mod MtrKinds
+pub mod Downs
 pub mod CoreExtends
 pub mod World
 pub mod Invariant

@@ -1,6 +1,6 @@
 -- What a node made, as it knows it by its own mtrs alone: which transaction each is of, whose a key is, and the row that
 -- stood before a transaction first wrote a key.
-use Rattle.std.specs.Prelude.{◌≡◌, ℕ, ◌==◌, ◌&&◌, Bool, false, if◌then◌else◌, List, [], ◌∷◌, Option, None, Some, slice_get}
+use Rattle.std.specs.Prelude.{ℕ, ◌==◌, ◌&&◌, Bool, false, if◌then◌else◌, List, [], ◌∷◌, Option, None, Some, slice_get}
 use Rattle.mp_model.specs.declared.ids.TrxId.{TrxId}
 use Rattle.mp_cells.specs.declared.records.Record.{Record}
 use Rattle.mp_cells.specs.declared.records.Record.TheVariants as records

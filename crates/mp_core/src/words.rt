@@ -18,7 +18,7 @@ pub const LOCK_WORDS: usize = SLOT_WORDS + PRIMARIES * SLOTS as usize;
 pub const LLSN_WORDS: usize = LOCK_WORDS + PAGES;
 /// The LLSNs up to which their logs are forced.
 pub const DURABLE_WORDS: usize = LLSN_WORDS + PRIMARIES;
-/// Which of them are down. No step reads or writes a word of these yet.
+/// With which number each of them is down, or 0.
 pub const DOWN_WORDS: usize = DURABLE_WORDS + PRIMARIES;
 /// Who has the frames of the pages.
 pub const TURN_WORDS: usize = DOWN_WORDS + PRIMARIES;

@@ -4,7 +4,7 @@ use Rattle.mp_machine.specs.Machine.{run, AllAllowed, run_from, AllowedFrom}
 use Rattle.mp_machine.proofs.Time.{kept, in_time}
 use Rattle.mp_core.specs.declared.opening.CoreOpening.{CoreOpening}
 use Rattle.mp_core.specs.declared.event.CoreEvent.{CoreEvent}
-use Rattle.mp_core.specs.declared.event.CoreEvent.TheVariants.{Trx, Pages}
+use Rattle.mp_core.specs.declared.event.CoreEvent.TheVariants.{Trx, Pages, Down}
 use Rattle.mp_core.specs.World.{CoreWorld, core_start, core_after, core_part, core_node_of, CoreAllowed, core}
 use Rattle.mp_core.specs.Invariant.{NumbersFit, CoreInv}
 use Rattle.mp_core.proofs.Law.{law}
@@ -35,6 +35,7 @@ module _ (o : CoreOpening) (fair : NumbersFit o) where
   pub keeps_joint : (w : CoreWorld) (e : CoreEvent) → CoreInv o w → Joint o w → CoreAllowed (core_part w (core_node_of e)) e → Joint o (core_after w e)
   keeps_joint w (Trx e) i j may = keeps_trx o fair w e i j may
   keeps_joint w (Pages e) i j may = keeps_pages o fair w e i j may
+  keeps_joint w (Down e) i j may = j
 
   -- with the last event first
   joint_law : (es : List CoreEvent) → AllAllowed (core o) es → Joint o (run (core o) es)

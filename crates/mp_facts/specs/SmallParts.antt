@@ -17,12 +17,14 @@ use Rattle.mp_core_pages.specs.PageEvents.{with_mtr}
 use Rattle.mp_histories.specs.SmallHistory.{small_trx, small_row, small_put, small_restore}
 use Rattle.mp_core.specs.declared.part.CorePart.{CorePart}
 use Rattle.mp_core.specs.Commits.{commit_records}
+use Rattle.mp_core.specs.Downs.{first_down_part}
 
 -- the part before it makes an mtr
 abbrev pub active_part : CorePart
 active_part = record {
   trx = with_begun (begun_of (small_trx 0) 0) (first_trx_part two_primaries);
   pages = record pages_newcomer { contents = Given 0 (fresh_map 0) ∷ Given 1 (fresh_map 1) ∷ Given 2 (fresh_map 2) ∷ [] };
+  downs = first_down_part;
   ops = 0;
 }
 

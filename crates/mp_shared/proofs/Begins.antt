@@ -12,10 +12,10 @@ use Rattle.mp_core_pages.specs.declared.page_lock.Held.{Held}
 use Rattle.mp_core_pages.specs.declared.page_lock.Held.TheVariants.{No}
 use Rattle.mp_core_pages.specs.PageParts.{out_at}
 use Rattle.mp_core_pages.specs.PageEvents.{lock_of, turn_of, llsn_word, durable_word}
-use Rattle.mp_core.specs.declared.words.TheConstants.{LOCK_WORDS, LLSN_WORDS, DURABLE_WORDS, TURN_WORDS, WORDS}
+use Rattle.mp_core.specs.declared.words.TheConstants.{LOCK_WORDS, LLSN_WORDS, DURABLE_WORDS, DOWN_WORDS, TURN_WORDS, WORDS}
 use Rattle.mp_core.specs.declared.opening.CoreOpening.{CoreOpening}
 use Rattle.mp_core.specs.declared.part.CorePart.{CorePart}
-use Rattle.mp_core.specs.World.{Frame, CorePlace, of_trx, of_pages, core_start, core_part, IsCorePlace, core_index, core_content, core}
+use Rattle.mp_core.specs.World.{Frame, CorePlace, of_trx, of_pages, of_down, core_start, core_part, IsCorePlace, core_index, core_content, core}
 use Rattle.mp_core.specs.Invariant.{NumbersFit}
 use Rattle.mp_core.proofs.Placed.{index_within}
 use Rattle.atomic_table.specs.Seated.{TableId}
@@ -34,6 +34,7 @@ words_are o (of_pages (lock_of k)) is = zero_word o.trx.base (LOCK_WORDS + k) (o
 words_are o (of_pages (turn_of k)) is = zero_word o.trx.base (TURN_WORDS + k) (omega arith) (inr (omega arith))
 words_are o (of_pages (llsn_word n)) is = llsn_word_is o.trx.base (LLSN_WORDS + (n - 1)) (omega arith) (omega arith)
 words_are o (of_pages (durable_word n)) is = llsn_word_is o.trx.base (DURABLE_WORDS + (n - 1)) (omega arith) (omega arith)
+words_are o (of_down n) is = zero_word o.trx.base (DOWN_WORDS + (n - 1)) (omega arith) (inr (omega arith))
 
 pub opens : (o : CoreOpening) (count : ℕ) (words : List ℕ) (slots : List Frame) → count ≡ WORDS → ((k : ℕ) → k < count → get_elem? words k ≡ some (first_word o.trx.base k)) → slots ≡ o.pages → Opens (core o) words slots
 opens o count words slots all each same = record {

@@ -16,7 +16,7 @@ use Rattle.mp_core_pages.proofs.Choices.{if_equal, if_differs}
 use Rattle.mp_core.specs.declared.opening.CoreOpening.{CoreOpening}
 use Rattle.mp_core.specs.declared.part.CorePart.{CorePart}
 use Rattle.mp_core.specs.declared.event.CoreEvent.{CoreEvent}
-use Rattle.mp_core.specs.declared.event.CoreEvent.TheVariants.{Trx, Pages}
+use Rattle.mp_core.specs.declared.event.CoreEvent.TheVariants.{Trx, Pages, Down}
 use Rattle.mp_core.specs.Contents.{page_ops}
 use Rattle.mp_core.specs.World.{Frame, CoreWorld, Note, Carries, core_node_of, core_part, core_made, CoreAllowed}
 use Rattle.mp_core.specs.Invariant.{CoreInv}
@@ -55,6 +55,7 @@ GivesNone (Pages (TakeFrame n k)) = Unit {0}
 GivesNone (Pages (GiveFrame n k y)) = ⊥
 GivesNone (Pages (StoreLlsn n m)) = Unit {0}
 GivesNone (Pages (StoreDurable n v)) = Unit {0}
+GivesNone (Down e) = Unit {0}
 
 -- of the part that makes it
 out_made : (e : CoreEvent) → GivesNone e → (found : ℕ) (x : Note) (p : CorePart) (frames : List ℕ) → OutIn p.pages frames → OutIn (core_made e found x p).pages (frames_after e found frames)
@@ -65,6 +66,7 @@ out_made (Pages (TakeFrame n k)) none found x p frames old = out_taken (found ==
 out_made (Pages (GiveFrame n k y)) none found x p frames old = absurd none
 out_made (Pages (StoreLlsn n m)) none found x p frames old = old
 out_made (Pages (StoreDurable n v)) none found x p frames old = old
+out_made (Down e) none found x p frames old = old
 
 still_in : (b : Bool) (k j : ℕ) (frames : List ℕ) → IsIn j frames → IsIn j (if b then k ∷ frames else frames)
 still_in true k j frames there = inr there
@@ -79,6 +81,7 @@ out_stays (Pages (TakeFrame n k)) none found j frames there = still_in (found ==
 out_stays (Pages (GiveFrame n k y)) none found j frames there = absurd none
 out_stays (Pages (StoreLlsn n m)) none found j frames there = there
 out_stays (Pages (StoreDurable n v)) none found j frames there = there
+out_stays (Down e) none found j frames there = there
 
 module _ (parts : View CorePart) (n : ℕ) (q next : CorePart) (has : part_in parts n ≡ Some q) (frames later : List ℕ)
     (here : OutIn next.pages later) (there : (m k : ℕ) (p : CorePart) (y : Frame) → ¬ (m ≡ n) → part_in parts m ≡ Some p → out_at p.pages.frames k ≡ Some y → IsIn k later) where
@@ -146,3 +149,4 @@ module _ (o : CoreOpening) (w : CoreWorld) (i : CoreInv o w) (parts : View CoreP
       (out_given o w i parts agreed n k y found x q has q.trx.opening.base.llsn may.1 (subst (CarriesAllOut parts) pages all))
   carried_out_after (Pages (StoreLlsn n m)) found x q has may carried is all = stays_out (Pages (StoreLlsn n m)) tt found x q has (map (λ c. c.0) carried) all
   carried_out_after (Pages (StoreDurable n v)) found x q has may carried is all = stays_out (Pages (StoreDurable n v)) tt found x q has (map (λ c. c.0) carried) all
+  carried_out_after (Down e) found x q has may carried is all = stays_out (Down e) tt found x q has (map (λ c. c.0) carried) all

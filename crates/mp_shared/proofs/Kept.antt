@@ -18,7 +18,7 @@ use Rattle.mp_core_trx.specs.Events.{trx_made, ended, slot_row, TrxAllowed}
 use Rattle.mp_core_trx.proofs.SlotWords.{two_tags}
 use Rattle.mp_core.specs.declared.part.CorePart.{CorePart}
 use Rattle.mp_core.specs.declared.event.CoreEvent.{CoreEvent}
-use Rattle.mp_core.specs.declared.event.CoreEvent.TheVariants.{Trx, Pages}
+use Rattle.mp_core.specs.declared.event.CoreEvent.TheVariants.{Trx, Pages, Down}
 use Rattle.mp_core.specs.World.{Note, core_made, CoreAllowed}
 use Rattle.mp_shared.specs.Slots.{used_by, slot_after, SlotsInOrder}
 
@@ -61,10 +61,12 @@ order_made (LoadTit n whose slot) found p h may next = record { few = h.few; fre
 abbrev pub TakesNextSlot : CoreEvent → CorePart → Type 0
 TakesNextSlot (Trx e) p = TakesNext e p.trx
 TakesNextSlot (Pages e) p = Unit {0}
+TakesNextSlot (Down e) p = Unit {0}
 
 pub in_order_made : (e : CoreEvent) (found : ℕ) (x : Note) (p : CorePart) → SlotsInOrder p.trx → CoreAllowed p e → TakesNextSlot e p → SlotsInOrder (core_made e found x p).trx
 in_order_made (Trx e) found x p h may next = order_made e found p.trx h may.0 next
 in_order_made (Pages e) found x p h may next = h
+in_order_made (Down e) found x p h may next = h
 
 -- one part of a view changes
 module _ (parts : View CorePart) (n : ℕ) (q next : CorePart) (has : part_in parts n ≡ Some q) where

@@ -8,6 +8,7 @@ pub mod LockSeen
 pub mod PageTold
 pub mod FrameTold
 pub mod Fits
+pub mod DownTold
 pub mod Numbered
 pub mod Holding
 pub mod Sent

@@ -16,7 +16,7 @@ use Rattle.mp_core_pages.specs.PageEvents.{taken_as, with_lock, with_taken}
 use Rattle.mp_core_pages.proofs.Choices.{if_equal, if_differs}
 use Rattle.mp_core.specs.declared.part.CorePart.{CorePart}
 use Rattle.mp_core.specs.declared.event.CoreEvent.{CoreEvent}
-use Rattle.mp_core.specs.declared.event.CoreEvent.TheVariants.{Trx, Pages}
+use Rattle.mp_core.specs.declared.event.CoreEvent.TheVariants.{Trx, Pages, Down}
 use Rattle.mp_core.specs.Contents.{page_ops}
 use Rattle.mp_core.specs.World.{Note, core_made}
 use Rattle.mp_shared.specs.LockTables.{NotesLocks, NotesPart}
@@ -30,6 +30,7 @@ KeepsLocks (Pages (TakeFrame n k)) found = Unit {0}
 KeepsLocks (Pages (GiveFrame n k y)) found = Unit {0}
 KeepsLocks (Pages (StoreLlsn n m)) found = Unit {0}
 KeepsLocks (Pages (StoreDurable n v)) found = Unit {0}
+KeepsLocks (Down e) found = Unit {0}
 
 taken_keeps : (b : Bool) (k : ℕ) (frame : Option PageView) (known height : ℕ) (p : PagesPart PageView Mtr)
     → (if b then with_taken page_ops k frame known height p else p).locks ≡ p.locks
@@ -45,6 +46,7 @@ same_locks (Pages (TakeFrame n k)) found x p keeps = taken_keeps (found == 0) k 
 same_locks (Pages (GiveFrame n k y)) found x p keeps = refl
 same_locks (Pages (StoreLlsn n m)) found x p keeps = refl
 same_locks (Pages (StoreDurable n v)) found x p keeps = refl
+same_locks (Down e) found x p keeps = refl
 
 -- a lock that is taken is the newest
 pub lock_taken : (n k old new found : ℕ) (x : Note) (p : CorePart) → found ≡ old

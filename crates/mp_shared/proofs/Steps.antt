@@ -21,7 +21,7 @@ use Rattle.mp_core.specs.declared.words.TheConstants.{WORDS}
 use Rattle.mp_core.specs.declared.opening.CoreOpening.{CoreOpening}
 use Rattle.mp_core.specs.declared.part.CorePart.{CorePart}
 use Rattle.mp_core.specs.declared.event.CoreEvent.{CoreEvent}
-use Rattle.mp_core.specs.declared.event.CoreEvent.TheVariants.{Trx, Pages}
+use Rattle.mp_core.specs.declared.event.CoreEvent.TheVariants.{Trx, Pages, Down}
 use Rattle.mp_core.specs.World.{Frame, CoreWorld, IsCorePlace, core_node_of, core_place_of, core_index, core_content, Carries, core_part, core_made, CoreAllowed, core}
 use Rattle.mp_core.specs.Invariant.{NumbersFit, CoreInv}
 use Rattle.mp_core.proofs.Law.{law}
@@ -73,6 +73,7 @@ frames_carried o w i (Pages (TakeFrame n k)) may found is carried =
 frames_carried o w i (Pages (GiveFrame n k y)) may found is carried = one_less carried
 frames_carried o w i (Pages (StoreLlsn n m)) may found is carried = refl
 frames_carried o w i (Pages (StoreDurable n v)) may found is carried = refl
+frames_carried o w i (Down e) may found is carried = refl
 
 -- a node that may take a step on its table
 module _ (st : TableId) (key : CoreOpening) (s : Run) (shared_is : run_of st key ≡ s) (r : Run) (me : Me Frame (View CorePart)) (v : NodeView) (node_is : view_of r me ≡ v) (same : v.run ≡ s) where

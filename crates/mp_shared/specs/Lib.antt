@@ -1,6 +1,7 @@
 pub mod Nodes
 pub mod FirstWords
 pub mod PageSteps
+pub mod DownSteps
 pub mod LockTables
 pub mod Slots
 pub mod KeptNodes

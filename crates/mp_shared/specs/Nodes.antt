@@ -13,7 +13,7 @@ use Rattle.mp_core_pages.specs.declared.event.PagesEvent.TheVariants.{LockWord, 
 use Rattle.mp_core.specs.declared.opening.CoreOpening.{CoreOpening}
 use Rattle.mp_core.specs.declared.part.CorePart.{CorePart}
 use Rattle.mp_core.specs.declared.event.CoreEvent.{CoreEvent}
-use Rattle.mp_core.specs.declared.event.CoreEvent.TheVariants.{Trx, Pages}
+use Rattle.mp_core.specs.declared.event.CoreEvent.TheVariants.{Trx, Pages, Down}
 use Rattle.mp_core.specs.World.{Note, core_node_of, core_place_of, core_content, core_part, core_made, CoreAllowed, core}
 use Rattle.mp_core.specs.Invariant.{NumbersFit}
 
@@ -82,6 +82,7 @@ frames_turned (StoreDurable n v) found pages = pages
 abbrev pub frames_after : CoreEvent → ℕ → List ℕ → List ℕ
 frames_after (Trx e) found pages = pages
 frames_after (Pages e) found pages = frames_turned e found pages
+frames_after (Down e) found pages = pages
 
 -- the node after a step that found this word and made this note: the part of the step's primary is what the step makes of it
 abbrev pub node_after : NodeView → CoreEvent → ℕ → Note → NodeView

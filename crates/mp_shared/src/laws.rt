@@ -1,10 +1,13 @@
 //! What the words of contracts say, tried on small nodes, as the contracts of functions that do nothing.
-ghost use Rattle.std.specs.Prelude.{◌≡◌, ℕ, [], ◌∷◌, None, Some};
+ghost use Rattle.std.specs.Prelude.{◌≡◌, ℕ, ◌+◌, [], ◌∷◌, None, Some};
 ghost use Rattle.mp_cells.specs.PageView.{PageView};
 ghost use Rattle.mp_core_pages.specs.declared.page_lock.Held.{Held};
 ghost use Rattle.mp_core_pages.specs.declared.page_lock.Held.TheVariants.{No, Read, Write};
 ghost use Rattle.mp_core_pages.specs.PageEvents.{with_lock};
+ghost use Rattle.mp_machine.specs.View.{part_in};
 ghost use Rattle.mp_core.specs.declared.part.CorePart.{CorePart};
+ghost use Rattle.mp_core.specs.Downs.{down_load, goes_down_by, with_down_load};
+ghost use Rattle.mp_shared.specs.DownSteps.{with_downs};
 ghost use Rattle.mp_shared.specs.Nodes.{Run, NodeView};
 ghost use Rattle.mp_shared.specs.PageSteps.{held_in, with_pages, with_ops, MissedFrame};
 ghost use Rattle.mp_shared.specs.LockTables.{NotesLocks, NotesPart};
@@ -35,4 +38,13 @@ pub fn law_keeps_examples()
     ensures not_carried { (y : PageView) (q : CorePart) → ¬ CarriesAllOut (view_of_one (has_three y q)) [] }
     ensures no_frames { (n : NodeView) → ¬ Closes n [] }
     ensures missed { (before : NodeView) (after : NodeView) (t : MissedFrame 1 0 before after) → ¬ (t.0 ≡ 0) }
+{}
+
+/// What the steps on down words make of a node. The part of the primary has the number with which it goes down, or one
+/// more number that it loaded; 0 is not kept, and then it has only made an operation more; no other part comes in.
+pub fn law_downs_examples()
+    ensures stored { (run : Run) (q : CorePart) → part_in (with_downs (node_of_first run q) 1 (goes_down_by 3) 1).parts 1 ≡ Some record q { downs = record { own = 3; loaded = q.downs.loaded }; ops = q.ops + 1 } }
+    ensures loaded { (run : Run) (q : CorePart) → part_in (with_downs (node_of_first run q) 1 (with_down_load 2 3) 1).parts 1 ≡ Some record q { downs = record { own = q.downs.own; loaded = down_load 2 3 ∷ q.downs.loaded }; ops = q.ops + 1 } }
+    ensures loaded_none { (run : Run) (q : CorePart) → with_downs (node_of_first run q) 1 (with_down_load 2 0) 1 ≡ with_ops (node_of_first run q) 1 1 }
+    ensures other_primary { (run : Run) (q : CorePart) → part_in (with_downs (node_of_first run q) 1 (goes_down_by 3) 1).parts 2 ≡ None }
 {}

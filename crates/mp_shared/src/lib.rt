@@ -2,6 +2,7 @@
 //! other threads do meanwhile. `docs/architecture.md` has how it works, `docs/promises.md` what it promises.
 #![tactic(auto)]
 
+mod down_steps;
 mod frame_steps;
 mod frames;
 mod held_locks;
@@ -16,7 +17,7 @@ mod system;
 mod trx_steps;
 
 pub use frames::Frames;
-pub use laws::{law_holds_examples, law_keeps_examples};
+pub use laws::{law_downs_examples, law_holds_examples, law_keeps_examples};
 pub use mp_core_pages::Held;
 pub use mp_core_trx::Base;
 pub use node::Node;

@@ -6,6 +6,7 @@ use Rattle.mp_core_trx.specs.declared.part.Begun.{Begun}
 use Rattle.mp_machine.specs.Lists.{IsIn}
 use Rattle.mp_core_pages.specs.PageParts.{pages_newcomer}
 use Rattle.mp_core.specs.declared.part.CorePart.{CorePart}
+use Rattle.mp_core.specs.Downs.{first_down_part}
 use Rattle.mp_core_trx.specs.Words.{shown_of}
 use Rattle.mp_shared.specs.Nodes.{Run, NodeView, opening_of, first_node, node_of_one}
 use Rattle.mp_shared.specs.Slots.{next_slot}
@@ -40,7 +41,7 @@ module _ (r : Run) where
   one_begun = with_trx fresh 1 (with_begin (begun_of first 0)) 2
 
   abbrev one_part : CorePart
-  one_part = record { trx = with_begin (begun_of first 0) (first_trx_part fresh.run.opening.trx); pages = pages_newcomer; ops = 2 }
+  one_part = record { trx = with_begin (begun_of first 0) (first_trx_part fresh.run.opening.trx); pages = pages_newcomer; downs = first_down_part; ops = 2 }
 
   -- each transaction takes its primary's next slot
   slot_of_first : next_slot fresh 1 ≡ Some 0

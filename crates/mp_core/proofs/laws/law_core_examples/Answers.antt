@@ -65,3 +65,15 @@ pub returns-clause-no_change_without_a_row : goal.returns-clause-no_change_witho
 returns-clause-no_change_without_a_row c = λ may.
     ⊎_elim (λ put. no_rows put.row put.well.puts)
     (λ more. ⊎_elim (λ back. no_back ((0, TakePage 2) ∷ []) back.well.one.0 back.row refl back.well.one.1) (λ commit. no_commit (draw_of commit.id commit.cts) commit.records) more) may.2.kind
+
+pub returns-clause-down_by_itself : goal.returns-clause-down_by_itself
+returns-clause-down_by_itself c = ((lit≤ tt, lit≤ tt), (refl, inl refl))
+
+pub returns-clause-down_after_another : goal.returns-clause-down_after_another
+returns-clause-down_after_another c = ((lit≤ tt, lit≤ tt), (refl, inr (2, inl refl)))
+
+pub returns-clause-no_untold_down : goal.returns-clause-no_untold_down
+returns-clause-no_untold_down c = λ may. ⊎_elim (λ (own : 2 ≡ 1). absurd (omega (arith, own))) (λ none. none.1) may.1.1
+
+pub returns-clause-no_second_down : goal.returns-clause-no_second_down
+returns-clause-no_second_down c = λ may. let up = may.1.0 in absurd (omega (arith, up))
