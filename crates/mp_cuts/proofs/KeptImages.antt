@@ -3,7 +3,7 @@ use Rattle.std.proofs.Common.{◌≡◌, ℕ, ◌<◌, ◌≤◌, ◌==◌, List
 use Rattle.std.specs.List.{AllByRecursion}
 use Rattle.mp_cells.specs.declared.records.Mtr.{Mtr}
 use Rattle.mp_cells.proofs.KeyEdits.{All-filter}
-use Rattle.mp_log.specs.Logs.{IsLog, mtrs_of}
+use Rattle.mp_log.specs.Logs.{mtrs_of}
 use Rattle.mp_log.specs.Readers.{log_mtrs}
 use Rattle.mp_log.proofs.Given.{text_given}
 use Rattle.mp_histories.specs.Cuts.{log_place}
@@ -24,9 +24,9 @@ use Rattle.mp_cuts.proofs.Climbing.{in_time}
 use Rattle.mp_cuts.proofs.NodeLists.{AllOf, in_time_is, all_of_node}
 use Rattle.mp_cuts.proofs.OrderedCuts.{each_by_in}
 
-pub own_image : (o : CoreOpening) (w : CoreWorld) (work : Work) (n : ℕ) (file : List ℕ) → Facts o w → work.base ≡ o.trx.base → (on : IsOnImage work (core_part w n) file) → IsLog n on.batches → LeavesFirst o w n file
-own_image o w work n file f base on log =
-    let given : log_mtrs n file ≡ (mtrs_of on.batches, None) = text_given n on.batches file log on.text in
+pub own_image : (o : CoreOpening) (w : CoreWorld) (work : Work) (n : ℕ) (file : List ℕ) → Facts o w → work.base ≡ o.trx.base → IsOnImage work n (core_part w n) file → LeavesFirst o w n file
+own_image o w work n file f base on =
+    let given : log_mtrs n file ≡ (mtrs_of on.batches, None) = text_given n on.batches file on.log on.text in
     record {
       sound = ap (λ (x : List Mtr × Option ℕ). x.1) given;
       later = on.later;

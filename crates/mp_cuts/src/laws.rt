@@ -19,7 +19,6 @@ ghost use Rattle.mp_script.specs.Transactions.{acknowledged_cts};
 ghost use Rattle.mp_recover.specs.Standing.{IsRecoverable};
 ghost use Rattle.mp_recover.specs.Images.{logged_above, SoundImage, IsOpenedStore};
 ghost use Rattle.mp_cuts.specs.ValidCuts.{IsValidCut, mtrs_of_cut};
-ghost use Rattle.mp_log.specs.Logs.{IsLog};
 ghost use Rattle.mp_log.specs.Readers.{log_mtrs};
 ghost use Rattle.mp_recover.specs.Redoing.{mtrs_above};
 ghost use Rattle.mp_supports.specs.Work.{Work};
@@ -65,11 +64,11 @@ pub fn law_kept_closed()
         → AllByRecursion (WasCommitted run) commits → KeptAreClosed run commits }
 {}
 
-/// What a primary keeps of its log's images is what a crash may leave of it, where the image is of the log's grammar. So is a
-/// log that no primary runs on, where it has nothing above the base.
+/// What a primary keeps of its log's images is what a crash may leave of it. So is a log that no primary runs on, where it has
+/// nothing above the base.
 pub fn law_kept_image()
     ensures own { (o : CoreOpening) (w : CoreWorld) (work : Work) (n : ℕ) (file : List ℕ) → Facts o w → work.base ≡ o.trx.base
-        → (on : IsOnImage work (core_part w n) file) → IsLog n on.batches → LeavesFirst o w n file }
+        → IsOnImage work n (core_part w n) file → LeavesFirst o w n file }
     ensures idle { (o : CoreOpening) (w : CoreWorld) (n : ℕ) (file : List ℕ) → Facts o w → o.trx.primaries < n
         → (log_mtrs n file).1 ≡ None → mtrs_above o.trx.base.llsn (log_mtrs n file).0 ≡ [] → LeavesFirst o w n file }
 {}

@@ -33,7 +33,7 @@ use Rattle.mp_desk.proofs.Moving.{moves_both, moves_as}
 use Rattle.mp_desk.proofs.PutBackRows.{did_quiet, one_back, none_back, next_former}
 
 pub open_more : {D : Type 0} (p llsn more : ℕ) (log : LogView D) → llsn ≤ more → IsOpenLog p llsn log → IsOpenLog p more log
-open_more p llsn more log le is = record { live = is.live; node = is.node; last = let last = is.last in omega (arith, last, le) }
+open_more p llsn more log le is = record { live = is.live; node = is.node; last = let last = is.last in omega (arith, last, le); fits = is.fits }
 
 pub rose_later : (old mid new : ℕ) → old ≤ mid → Rose mid new → Rose old new
 rose_later old mid new le rose = omega (arith, le, rose)
@@ -52,7 +52,7 @@ module _ (p : ℕ) (id : TrxId) (formers : List Row) (from : ℕ) where
   rows_go k a b h = moves_as p (PutsBackRows id formers from k) CoreExtends (back_goes id formers from k) a b h
 
   pub none_moved : (n : NodeView) → from ≤ length formers → ((q : CorePart) → part_in n.parts p ≡ Some q → HasFormers q id (drop from formers)) → Moves (PutsBackRows id formers from from) p n n
-  none_moved n within left = record { run = refl; frames = refl; others = λ k other. refl; mine = λ q has. (q, has, none_back id formers from q within (left q has)) }
+  none_moved n within left = record { run = refl; frames = refl; others = λ k other. refl; mine = λ q has. (q, has, none_back id formers from q within (left q has), refl) }
 
   -- quiet steps behind
   module _ (k : ℕ) (a b c : NodeView) (rows : Moves (PutsBackRows id formers from k) p a b) where

@@ -322,7 +322,7 @@ module _ (p : ℕ) (a b : NodeView) (held : HoldsPart a p) (moves : Moves SomeFo
   abbrev before : CorePart
   before = (held_part a p held).0
 
-  abbrev now : (r : CorePart) × (part_in b.parts p ≡ Some r) × SomeForced before r
+  abbrev now : (r : CorePart) × (part_in b.parts p ≡ Some r) × SomeForced before r × (r.downs ≡ before.downs)
   now = moves.mine before (held_part a p held).1
 
   pub reads_on : (trx : Begun) → ReadsIn p trx a → ReadsIn p trx b
@@ -335,10 +335,10 @@ module _ (p : ℕ) (trx : Begun) (cts : ℕ) (a b c : NodeView) (held : HoldsPar
   abbrev has : part_in a.parts p ≡ Some q
   has = (held_part a p held).1
 
-  abbrev r : (x : CorePart) × (part_in b.parts p ≡ Some x) × IsInTheBalance trx cts q x
+  abbrev r : (x : CorePart) × (part_in b.parts p ≡ Some x) × IsInTheBalance trx cts q x × (x.downs ≡ q.downs)
   r = one.mine q has
 
-  abbrev s : (x : CorePart) × (part_in c.parts p ≡ Some x) × AllForced r.0 x
+  abbrev s : (x : CorePart) × (part_in c.parts p ≡ Some x) × AllForced r.0 x × (x.downs ≡ r.0.downs)
   s = two.mine r.0 r.1
 
   s_up : Ascends page_ops s.0.trx.opening.base.llsn s.0.pages.made
@@ -372,6 +372,7 @@ module _ (p : ℕ) (trx : Begun) (cts : ℕ) (a b c : NodeView) (held : HoldsPar
                 trx_changed (with_end trx.id (Some cts)) 1 s.0,
                 trx_there p c d (with_end trx.id (Some cts)) 1 is s.0 s.1 s_ends,
                 subst (λ (y : CorePart). IsPublished trx cts y (trx_changed (with_end trx.id (Some cts)) 1 s.0)) same (published trx cts q r.0 s.0 r.2 s.2 s_up),
+                s.3 ∙ r.3 ∙ ap (λ (y : CorePart). y.downs) same,
               );
         }
 
@@ -460,6 +461,7 @@ module _ (run : Run) (desk : Desk) (p : ℕ) (trx : Begun) (cts : ℕ) (a b c : 
           now.1,
           subst (λ (z : CorePart). IsInTheBalance trx cts z now.0) (one_part (part_in a.parts p) q0 y has0 there)
               (in_the_balance p trx cts desk.llsn q0 now.0 (reads q0 has0) (view_known a at.reached p q0 has0 trx (reads q0 has0).begun) (above_before q0 has0) (omega (arith, made, not_below)) x its now.2),
+          now.3 ∙ ap (λ (z : CorePart). z.downs) (one_part (part_in a.parts p) q0 y has0 there),
         );
       }
 

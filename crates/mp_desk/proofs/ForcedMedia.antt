@@ -20,8 +20,9 @@ use Rattle.mp_core.specs.declared.event.CoreEvent.TheVariants.{Pages}
 use Rattle.mp_core.specs.Contents.{page_ops}
 use Rattle.mp_core.specs.CoreExtends.{durable_of, CoreExtends}
 use Rattle.mp_core.specs.World.{core}
+use Rattle.mp_core.proofs.Downs.{downs_extend_refl}
 use Rattle.mp_core.proofs.Law.{law}
-use Rattle.mp_log.specs.Logs.{mtrs_of, with_batch, IsText, HoldsEither}
+use Rattle.mp_log.specs.Logs.{mtrs_of, most_batch_bytes, with_batch, IsLog, IsText, HoldsEither}
 use Rattle.mp_log.specs.Tails.{TailView, LogStands}
 use Rattle.mp_log.proofs.Opened.{mtrs_more}
 use Rattle.mp_shared.specs.Nodes.{Run, NodeView, Reached, TookUnseen}
@@ -35,6 +36,7 @@ use Rattle.mp_supports.specs.Agreement.{last_made_llsn}
 use Rattle.mp_supports.proofs.Extending.{core_extends_refl}
 use Rattle.mp_supports.proofs.Unchanged.{same_last}
 use Rattle.mp_supports.specs.Media.{mtrs_in_order, above_base, OnDisk}
+use Rattle.mp_supports.proofs.KeptBatches.{kept_batches, kept_with_batch}
 use Rattle.mp_desk.specs.declared.desk.Desk.{Desk}
 use Rattle.mp_desk.specs.Desks.{DeskAgrees, Moves, IsAtDesk}
 use Rattle.mp_desk.specs.Making.{AllForced}
@@ -63,6 +65,7 @@ forced_one q v more = record {
     durable = more;
     made_later = λ x there. inl there;
     given_later = λ g there. inl there;
+    downs = downs_extend_refl q.downs;
   };
   trx = refl;
   made = refl;
@@ -110,7 +113,7 @@ module _ (before after : NodeView) (p v : ℕ) (q : CorePart) (has : part_in bef
 
 -- all is durable already
 pub not_forced : (p : ℕ) (n : NodeView) → ((q : CorePart) → part_in n.parts p ≡ Some q → last_made_llsn q ≡ durable_of q) → Moves AllForced p n n
-not_forced p n durable = record { run = refl; frames = refl; others = λ k other. refl; mine = λ q has. (q, has, (durable q has, inl refl)) }
+not_forced p n durable = record { run = refl; frames = refl; others = λ k other. refl; mine = λ q has. (q, has, (durable q has, inl refl), refl) }
 
 -- what is durable was made
 pub durable_below : (n : NodeView) → Reached n → (p : ℕ) (q : CorePart) → part_in n.parts p ≡ Some q → durable_of q ≤ last_made_llsn q
@@ -169,14 +172,16 @@ module _ (work : Work) (q : CorePart) (base : q.trx.opening.base ≡ work.base) 
   module _ (tail later : TailView) (unforced tells : Bool) (seen : List ℕ) (image : List ℕ → Type 0) (h : OnDisk work q 0 tail unforced tells seen image) (live : tail.live ≡ true)
       (seen_after : List ℕ) (image_after : List ℕ → Type 0) (last : later.last ≡ tail.last) where
     -- a force that was refused
-    pub media_refused : (down : ℕ) → down ≢ 0 → later.live ≡ false → ((batches : List (List Mtr)) (pending : List Mtr) → tells ≡ true → LogStands batches pending tail seen image → HoldsEither batches (with_batch batches pending) image_after)
+    pub media_refused : (down : ℕ) → down ≢ 0 → later.node ≡ tail.node → length tail.bytes ≤ most_batch_bytes → later.live ≡ false → ((batches : List (List Mtr)) (pending : List Mtr) → tells ≡ true → LogStands batches pending tail seen image → HoldsEither batches (with_batch batches pending) image_after)
         → OnDisk work q down later true tells seen_after image_after
-    media_refused down some closed either = record {
+    media_refused down some node fits closed either = record {
       images = λ told c is.
           let stands = h.live live told in
+          let before = kept_batches stands.0 stands.1 tail seen image stands.2 in
+          let more = kept_with_batch stands.0 stands.1 tail seen image stands.2 fits in
           ⊎_elim
-          (λ (old : IsText stands.0 c). record { batches = stands.0; text = old; later = stands.1; front = stands.3; covers = stands.4 })
-          (λ (new : IsText (with_batch stands.0 stands.1) c). record { batches = with_batch stands.0 stands.1; text = new; later = []; front = whole_order stands.0 stands.1 stands.3 ∙ sym (append-nil (above_base work (with_batch stands.0 stands.1))); covers = tt })
+          (λ (old : IsText stands.0 c). record { batches = stands.0; text = old; log = subst (λ n. IsLog n stands.0) (sym node) before; later = stands.1; front = stands.3; covers = stands.4 })
+          (λ (new : IsText (with_batch stands.0 stands.1) c). record { batches = with_batch stands.0 stands.1; text = new; log = subst (λ n. IsLog n (with_batch stands.0 stands.1)) (sym node) more; later = []; front = whole_order stands.0 stands.1 stands.3 ∙ sym (append-nil (above_base work (with_batch stands.0 stands.1))); covers = tt })
           (either stands.0 stands.1 told stands.2 c is);
       live = λ is told. absurd (false≢true (sym closed ∙ is));
       last = λ some_made. last ∙ h.last some_made;
@@ -191,7 +196,8 @@ module _ (work : Work) (q : CorePart) (base : q.trx.opening.base ≡ work.base) 
     media_forced r step durable is_open none stands_after = record {
       images = λ told c is.
           let stands = h.live live told in
-          record { batches = with_batch stands.0 stands.1; text = (stands_after stands.0 stands.1 told stands.2).images c is; later = []; front = order_after stands.0 stands.1 stands.3; covers = tt };
+          let then = stands_after stands.0 stands.1 told stands.2 in
+          record { batches = with_batch stands.0 stands.1; text = then.images c is; log = kept_batches (with_batch stands.0 stands.1) [] later seen_after image_after then; later = []; front = order_after stands.0 stands.1 stands.3; covers = tt };
       live = λ is told.
           let stands = h.live live told in
           (with_batch stands.0 stands.1, [], stands_after stands.0 stands.1 told stands.2, order_after stands.0 stands.1 stands.3, tt);

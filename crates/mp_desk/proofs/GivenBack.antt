@@ -351,6 +351,7 @@ moves_let_go p a b held reached moves durable idle = record {
           | inl less ↦ sym (held_is b p k now.0 now.1) ∙ idle k less
           | inr beyond ↦ held_within b reached p now.0 now.1 k beyond
         ]),
+        now.3,
       );
 }
 

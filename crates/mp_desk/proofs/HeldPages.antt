@@ -23,7 +23,7 @@ use Rattle.mp_core_pages.proofs.Choices.{if_equal, if_differs}
 use Rattle.mp_core.specs.declared.opening.CoreOpening.{CoreOpening}
 use Rattle.mp_core.specs.declared.part.CorePart.{CorePart}
 use Rattle.mp_core.specs.declared.event.CoreEvent.{CoreEvent}
-use Rattle.mp_core.specs.declared.event.CoreEvent.TheVariants.{Trx, Pages}
+use Rattle.mp_core.specs.declared.event.CoreEvent.TheVariants.{Trx, Pages, Down}
 use Rattle.mp_core.specs.Contents.{page_ops}
 use Rattle.mp_core.specs.World.{CoreWorld, core, core_after, core_part, core_node_of, CoreAllowed, known_by}
 use Rattle.mp_shared.specs.Nodes.{NodeView, Reached}
@@ -66,6 +66,7 @@ RowsWithin w = NoneBeyond w.pages.lock_rows
 keeps_all : (w : CoreWorld) (e : CoreEvent) → CoreAllowed (core_part w (core_node_of e)) e → RowsWithin w → RowsWithin (core_after w e)
 keeps_all w (Trx e) may none = none
 keeps_all w (Pages e) may none = keeps_rows (known_by w (core_node_of (Pages e))) w.pages (core_part w (core_node_of (Pages e))) e may none
+keeps_all w (Down e) may none = none
 
 rows_within : (o : CoreOpening) (events : List CoreEvent) → AllAllowed (core o) events → RowsWithin (run (core o) events)
 rows_within o = kept (core o) RowsWithin (λ n k beyond. refl) (λ es e all none. keeps_all (run (core o) es) e all.0.1.0 none)

@@ -23,7 +23,7 @@ use Rattle.mp_core_trx.proofs.Words.{shown_again}
 use Rattle.mp_core.specs.declared.opening.CoreOpening.{CoreOpening}
 use Rattle.mp_core.specs.declared.part.CorePart.{CorePart}
 use Rattle.mp_core.specs.declared.event.CoreEvent.{CoreEvent}
-use Rattle.mp_core.specs.declared.event.CoreEvent.TheVariants.{Trx, Pages}
+use Rattle.mp_core.specs.declared.event.CoreEvent.TheVariants.{Trx, Pages, Down}
 use Rattle.mp_core.specs.Invariant.{NumbersFit}
 use Rattle.mp_core.specs.World.{CoreWorld, core, core_after, core_part}
 use Rattle.mp_core.proofs.Law.{law}
@@ -53,6 +53,7 @@ module _ (o : CoreOpening) (fair : NumbersFit o) where
   keeps_all : (w : CoreWorld) (e : CoreEvent) → TrxInv o.trx w.trx → AreStamped (loaded_in w.trx) → AreStamped (loaded_in (core_after w e).trx)
   keeps_all w (Trx e) i stamped = subst AreStamped (sym (loaded_are w.trx e)) (keeps_loads o.trx fair.trx w.trx i stamped e)
   keeps_all w (Pages e) i stamped = stamped
+  keeps_all w (Down e) i stamped = stamped
 
   all_stamped : (events : List CoreEvent) → AllAllowed (core o) events → AreStamped (loaded_in (run (core o) events).trx)
   all_stamped = kept (core o) (λ w. AreStamped (loaded_in w.trx)) (λ n l none. absurd none) (λ es e all stamped. keeps_all (run (core o) es) e (law o fair es all.1).trx stamped)

@@ -23,6 +23,7 @@ use Rattle.mp_core_pages.proofs.Growth.{pages_extends_refl}
 use Rattle.mp_core.specs.declared.part.CorePart.{CorePart}
 use Rattle.mp_core.specs.OwnMtrs.{trx_mtrs}
 use Rattle.mp_core.specs.CoreExtends.{durable_of, CoreExtends}
+use Rattle.mp_core.proofs.Downs.{downs_extend_refl}
 use Rattle.mp_shared.specs.Nodes.{NodeView, HoldsPart}
 use Rattle.mp_shared.specs.PageSteps.{held_in, with_pages, with_ops}
 use Rattle.mp_shared.proofs.Holding.{held_part, holds_the_part}
@@ -63,6 +64,7 @@ looked_pages q f steps more made durables later = record {
     durable = subst (λ (l : List ℕ). durable_of q ≤ durable_llsn q.trx.opening.base.llsn l) (sym durables) (omega arith);
     made_later = λ x there. inl (subst (λ (l : List (Placed Mtr)). IsIn x (trx_mtrs l)) made there);
     given_later = later;
+    downs = downs_extend_refl q.downs;
   };
   begun = refl;
   rows = refl;
@@ -120,18 +122,24 @@ looked_visit q k found left known height since =
 
 module _ (p : ℕ) where
   pub moves_none : (So : CorePart → CorePart → Type 0) → ((q : CorePart) → So q q) → (n : NodeView) → Moves So p n n
-  moves_none So itself n = record { run = refl; frames = refl; others = λ k other. refl; mine = λ q has. (q, has, itself q) }
+  moves_none So itself n = record { run = refl; frames = refl; others = λ k other. refl; mine = λ q has. (q, has, itself q, refl) }
 
   pub moves_both : (First Second Both : CorePart → CorePart → Type 0) → ((q r s : CorePart) → First q r → Second r s → Both q s) → (a b c : NodeView) → Moves First p a b → Moves Second p b c → Moves Both p a c
   moves_both First Second Both join a b c one two = record {
     run = two.run ∙ one.run;
     frames = two.frames ∙ one.frames;
     others = λ k other. two.others k other ∙ one.others k other;
-    mine = λ q has. let r = one.mine q has in let s = two.mine r.0 r.1 in (s.0, s.1, join q r.0 s.0 r.2 s.2);
+    mine = λ q has. let r = one.mine q has in let s = two.mine r.0 r.1 in (s.0, s.1, join q r.0 s.0 r.2 s.2, s.3 ∙ r.3);
   }
 
   pub moves_as : (First Second : CorePart → CorePart → Type 0) → ((q r : CorePart) → First q r → Second q r) → (a b : NodeView) → Moves First p a b → Moves Second p a b
-  moves_as First Second weaker a b one = record { run = one.run; frames = one.frames; others = one.others; mine = λ q has. let r = one.mine q has in (r.0, r.1, weaker q r.0 r.2) }
+  moves_as First Second weaker a b one = record { run = one.run; frames = one.frames; others = one.others; mine = λ q has. let r = one.mine q has in (r.0, r.1, weaker q r.0 r.2, r.3) }
+
+  -- what the primary knows of primaries that are down stays
+  pub moves_downs : (So : CorePart → CorePart → Type 0) → (a b : NodeView) → Moves So p a b → (q r : CorePart) → part_in a.parts p ≡ Some q → part_in b.parts p ≡ Some r → r.downs ≡ q.downs
+  moves_downs So a b moves q r has there =
+      let now = moves.mine q has in
+      ap (λ (x : CorePart). x.downs) (one_part (part_in b.parts p) r now.0 there now.1) ∙ now.3
 
   -- looks are a preorder, and so are steps of any kind
   pub looks_none : (n : NodeView) → Moves OnlyLooked p n n
@@ -178,6 +186,7 @@ module _ (p : ℕ) (a b : NodeView) (q : CorePart) (has : part_in a.parts p ≡ 
           pages_changed f steps q,
           ap (λ (n : NodeView). part_in n.parts p) is ∙ part_after a p q has f steps,
           subst (λ (x : CorePart). So x (pages_changed f steps q)) same so,
+          ap (λ (x : CorePart). x.downs) same,
         );
   }
 

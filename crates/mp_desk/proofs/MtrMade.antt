@@ -27,6 +27,7 @@ use Rattle.mp_core.specs.CoreExtends.{durable_of, IsMadeLater}
 use Rattle.mp_core.specs.Invariant.{NumbersFit, CoreInv}
 use Rattle.mp_core.specs.OwnMtrs.{TrxMtr, trx_mtrs}
 use Rattle.mp_core.specs.World.{CoreWorld, core_part, core}
+use Rattle.mp_core.proofs.Downs.{downs_extend_refl}
 use Rattle.mp_core.proofs.Law.{law}
 use Rattle.mp_core.proofs.Pages.{page_laws, pages_fit}
 use Rattle.mp_shared.specs.Nodes.{NodeView, MayTake, TookUnseen}
@@ -60,6 +61,7 @@ made_one q x later = record {
     durable = omega arith;
     made_later = new_or_old x q later;
     given_later = λ g there. inl there;
+    downs = downs_extend_refl q.downs;
   };
   trx = refl;
   made = refl;

@@ -114,7 +114,7 @@ module _ (p : ℕ) where
     mine = λ q has.
         let r = quiet.mine q has in
         let s = made.mine r.0 r.1 in
-        (s.0, s.1, makes_back id row x q r.0 s.0 r.2 s.2 restored put (of r.0 r.1));
+        (s.0, s.1, makes_back id row x q r.0 s.0 r.2 s.2 restored put (of r.0 r.1), s.3 ∙ r.3);
   }
 
 -- ---- one row more

@@ -18,6 +18,7 @@ use Rattle.mp_core_trx.specs.Events.{IsNode, load_of, with_slot_load}
 use Rattle.mp_core_pages.proofs.Growth.{pages_extends_refl}
 use Rattle.mp_core.specs.declared.part.CorePart.{CorePart}
 use Rattle.mp_core.specs.World.{core_part}
+use Rattle.mp_core.proofs.Downs.{downs_extend_refl}
 use Rattle.mp_shared.specs.Nodes.{Run, NodeView, Reached}
 use Rattle.mp_shared.specs.PageSteps.{held_by_part}
 use Rattle.mp_shared.proofs.Holding.{held_part}
@@ -98,6 +99,7 @@ module _ (run : Run) (desk : Desk) (p : ℕ) (a b : NodeView) (at : IsAtDesk run
         durable = omega arith;
         made_later = λ x there. inl there;
         given_later = λ g there. inl there;
+        downs = downs_extend_refl q.downs;
       };
       begun = refl;
       rows = refl;
@@ -117,7 +119,7 @@ module _ (run : Run) (desk : Desk) (p : ℕ) (a b : NodeView) (at : IsAtDesk run
     run = ap (λ (n : NodeView). n.run) becomes;
     frames = ap (λ (n : NodeView). n.frames) becomes;
     others = λ k other. part_else a b p (with_slot_load id.node id.slot word) 1 becomes k other;
-    mine = λ q has. (record q { trx = with_slot_load id.node id.slot word q.trx; ops = q.ops + 1 }, here_now q has, away_load q);
+    mine = λ q has. (record q { trx = with_slot_load id.node id.slot word q.trx; ops = q.ops + 1 }, here_now q has, away_load q, refl);
   }
 
   locks_load : KeepsLocks p a b

@@ -74,9 +74,10 @@ at_desk_trx run desk p a b at moves reached =
 -- ---- the media
 
 module _ {D : Type 0} (g : Ghosts D) (work : Work) (p down : ℕ) (media : Media D) (a b : NodeView) (held : HoldsPart a p) where
-  part_trx : (q r : CorePart) → TrxStep q r → HoldsPartOf g work down media q → HoldsPartOf g work down media r
+  part_trx : (q r : CorePart) → TrxStep q r → HoldsPartOf g work down p media q → HoldsPartOf g work down p media r
   part_trx q r step h = record {
     base = ap (λ (o : TrxOpening). o.base) step.extends.trx.same_opening ∙ h.base;
+    node = h.node;
     on_disk = disk_kept q r step.extends (same_made q r step) (ap (λ (l : PagesPart PageView Mtr). l.durables) step.pages) work down media.log.tail media.unforced (g.tells media.log.disk) (g.seen media.log.disk) (g.image media.log.disk) h.on_disk;
     some_made = λ e.
         let some = h.some_made e in
@@ -88,10 +89,10 @@ module _ {D : Type 0} (g : Ghosts D) (work : Work) (p down : ℕ) (media : Media
   media_trx moves agree r there =
       let has = held_part a p held in
       let now = moves.mine has.0 has.1 in
-      subst (HoldsPartOf g work down media) (one_part (part_in b.parts p) now.0 r now.1 there) (part_trx has.0 now.0 now.2 (agree has.0 has.1))
+      subst (HoldsPartOf g work down p media) (one_part (part_in b.parts p) now.0 r now.1 there) (part_trx has.0 now.0 now.2 (agree has.0 has.1))
 
   pub media_looked : Moves OnlyLooked p a b → MediaAgree g work down media p a → MediaAgree g work down media p b
   media_looked moves agree r there =
       let has = held_part a p held in
       let now = moves.mine has.0 has.1 in
-      subst (HoldsPartOf g work down media) (one_part (part_in b.parts p) now.0 r now.1 there) (part_looked g work p down media has.0 now.0 now.2 (agree has.0 has.1))
+      subst (HoldsPartOf g work down p media) (one_part (part_in b.parts p) now.0 r now.1 there) (part_looked g work p down media has.0 now.0 now.2 (agree has.0 has.1))

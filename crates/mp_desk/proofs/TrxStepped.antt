@@ -17,6 +17,7 @@ use Rattle.mp_core_pages.proofs.Growth.{pages_extends_refl}
 use Rattle.mp_core.specs.declared.part.CorePart.{CorePart}
 use Rattle.mp_core.specs.CoreExtends.{durable_of, CoreExtends}
 use Rattle.mp_outside.specs.declared.disks.Disk.{Ghosts}
+use Rattle.mp_core.proofs.Downs.{downs_extend_refl}
 use Rattle.mp_shared.specs.Nodes.{Run, NodeView, HoldsPart, HoldsAll, Reached}
 use Rattle.mp_shared.specs.PageSteps.{held_in}
 use Rattle.mp_shared.proofs.Holding.{held_part}
@@ -76,6 +77,7 @@ trx_step q f steps more = record {
     durable = let same = ap (λ (o : TrxOpening). durable_of (record q { trx = record (q.trx) { opening = o } })) more.same_opening in omega (arith, same);
     made_later = λ x there. inl there;
     given_later = λ g there. inl there;
+    downs = downs_extend_refl q.downs;
   };
   pages = refl;
 }
@@ -93,7 +95,7 @@ module _ (p : ℕ) (a b : NodeView) (f : TrxPart → TrxPart) (steps : ℕ) (is 
     others = λ k other. part_else a b p f steps is k other;
     mine = λ r there.
         let same : q ≡ r = one_part (part_in a.parts p) q r has there in
-        (trx_changed f steps q, trx_there, subst (λ (x : CorePart). So x (trx_changed f steps q)) same so);
+        (trx_changed f steps q, trx_there, subst (λ (x : CorePart). So x (trx_changed f steps q)) same so, ap (λ (x : CorePart). x.downs) same);
   }
 
   pub trx_locks : (k : ℕ) → held_in b p k ≡ held_in a p k

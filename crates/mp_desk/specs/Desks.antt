@@ -46,12 +46,12 @@ pub record DeskAgrees (desk : Desk) (q : CorePart) : Type 0 where
   pub seen : (k : ℕ) (b : Buffer) → buffer_of desk.pool k ≡ Some b → b.page.llsn ≤ desk.llsn
   pub undo_page : IfSome desk.undo (λ page. (2 ≤ page) × (page < 4096) × HasMadeUndo q page)
 
--- Only the part of one primary changed, and so
+-- Only the part of one primary changed, and so; what it knows of primaries that are down stays
 pub record Moves (So : CorePart → CorePart → Type 0) (p : ℕ) (before after : NodeView) : Type 0 where
   pub run : after.run ≡ before.run
   pub frames : after.frames ≡ before.frames
   pub others : (n : ℕ) → n ≢ p → part_in after.parts n ≡ part_in before.parts n
-  pub mine : (q : CorePart) → part_in before.parts p ≡ Some q → (r : CorePart) × (part_in after.parts p ≡ Some r) × So q r
+  pub mine : (q : CorePart) → part_in before.parts p ≡ Some q → (r : CorePart) × (part_in after.parts p ≡ Some r) × So q r × (r.downs ≡ q.downs)
 
 -- A primary is at work at its desk: its node has the primary's part and no frame, and the desk agrees with the part
 pub record IsAtDesk (run : Run) (desk : Desk) (p : ℕ) (n : NodeView) : Type 0 where

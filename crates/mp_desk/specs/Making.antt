@@ -19,6 +19,7 @@ use Rattle.mp_core.specs.Contents.{page_ops}
 use Rattle.mp_core.specs.CoreExtends.{durable_of}
 use Rattle.mp_core.specs.OwnMtrs.{TrxMtr, trx_mtrs}
 use Rattle.mp_outside.specs.declared.disks.Disk.{Ghosts}
+use Rattle.mp_log.specs.Logs.{most_batch_bytes}
 use Rattle.mp_log.specs.Tails.{LogView}
 use Rattle.mp_shared.specs.Nodes.{NodeView}
 use Rattle.mp_shared.specs.PageSteps.{with_pages}
@@ -84,22 +85,24 @@ abbrev pub IsUndoAfter : Plan → Option ℕ → Option ℕ → Type 0
 IsUndoAfter plan old new = ((page : ℕ) × (new ≡ Some page) × IsIn (page, MakeUndo) plan)
     ⊎ ((new ≡ old) × ((page : ℕ) → IsIn (page, MakeUndo) plan → ⊥))
 
--- A log that takes mtrs: it is the primary's, and has none above this LLSN
+-- A log that takes mtrs: it is the primary's, and has none above this LLSN; what is appended is no more than a batch may have
 pub record IsOpenLog {D : Type 0} (p llsn : ℕ) (log : LogView D) : Type 0 where
   pub live : log.tail.live ≡ true
   pub node : log.tail.node ≡ p
   pub last : log.tail.last ≤ llsn
+  pub fits : length log.tail.bytes ≤ most_batch_bytes
 
--- WHAT THE MEDIA HOLD of a primary's part in a node, where both began at one base; the part has an mtr where something is
--- unforced
+-- WHAT THE MEDIA HOLD of the part of the primary with this number, where both began at one base: the log is that primary's, also
+-- once it is closed; the part has an mtr where something is unforced
 module _ {D : Type 0} (g : Ghosts D) where
-  pub record HoldsPartOf (work : Work) (down : ℕ) (media : Media D) (q : CorePart) : Type 0 where
+  pub record HoldsPartOf (work : Work) (down number : ℕ) (media : Media D) (q : CorePart) : Type 0 where
     pub base : q.trx.opening.base ≡ work.base
+    pub node : media.log.tail.node ≡ number
     pub on_disk : OnDisk work q down media.log.tail media.unforced (g.tells media.log.disk) (g.seen media.log.disk) (g.image media.log.disk)
     pub some_made : media.unforced ≡ true → 0 < length q.pages.made
 
   abbrev pub MediaAgree : Work → ℕ → Media D → ℕ → NodeView → Type 0
-  MediaAgree work down media p n = (q : CorePart) → part_in n.parts p ≡ Some q → HoldsPartOf work down media q
+  MediaAgree work down media p n = (q : CorePart) → part_in n.parts p ≡ Some q → HoldsPartOf work down p media q
 
   -- they agree for some work: who forces them needs to know no more
   abbrev pub MediaAgreeSomehow : Media D → ℕ → NodeView → Type 0

@@ -14,6 +14,7 @@ use Rattle.mp_core_pages.specs.PageParts.{lock_row, pages_newcomer}
 use Rattle.mp_histories.specs.Histories.{pages_after}
 use Rattle.mp_histories.specs.SmallHistory.{small_put}
 use Rattle.mp_core.specs.declared.part.CorePart.{CorePart}
+use Rattle.mp_core.specs.Downs.{first_down_part}
 use Rattle.mp_buffer_fusion.specs.declared.buffer.Buffer.{Buffer}
 use Rattle.mp_supports.specs.SmallParts.{nothing_before, own_trx, older_trx, younger_trx, small_part, first_link, version_by, only_leaf, load_showing, commit_mtr, made_at_four, forced_to}
 use Rattle.mp_desk.specs.declared.desk.Desk.{Desk}
@@ -87,6 +88,7 @@ ready_part = record {
     loaded = [];
   };
   pages = pages_newcomer;
+  downs = first_down_part;
   ops = 0;
 }
 

@@ -19,15 +19,18 @@ ghost use Rattle.mp_shared.specs.SmallNodes.{node_of_first, holding_zero};
 ghost use Rattle.mp_buffer_fusion.specs.declared.buffer.Buffer.{Buffer};
 ghost use Rattle.mp_buffer_fusion.specs.Fetching.{frame_missed};
 ghost use Rattle.mp_buffer_fusion.specs.PoolExamples.{blank_buffer};
+ghost use Rattle.mp_core.specs.Downs.{first_down_part, goes_down_by};
+ghost use Rattle.mp_supports.specs.Steps.{OnlyLooked};
 ghost use Rattle.mp_supports.specs.SmallParts.{own_trx, part_before_steps, small_part, version_by, only_leaf, only_undo, first_link};
 ghost use Rattle.mp_tree.specs.declared.write.PlanRefusal.TheVariants as refusals;
 ghost use Rattle.mp_desk.specs.declared.desk.Desk.{Desk};
-ghost use Rattle.mp_desk.specs.Desks.{DeskAgrees, IsAtDesk, IsGivenSince, IsReadAfresh, HasSameWork, KeepsLocks, Brings, MissesHere, MetWait, HasLeaf, IsWayTo, InEachWorld, LiesAt, IsRecordAt};
+ghost use Rattle.mp_desk.specs.Desks.{DeskAgrees, Moves, IsAtDesk, IsGivenSince, IsReadAfresh, HasSameWork, KeepsLocks, Brings, MissesHere, MetWait, HasLeaf, IsWayTo, InEachWorld, LiesAt, IsRecordAt};
 ghost use Rattle.mp_desk.specs.Planned.{PlansWrite, PlansBack, RefusesPlan};
 ghost use Rattle.mp_desk.specs.SmallDesks.{desk_with, root_buffer, fresh_buffers, put_buffer, holding_root, least_wait, unwritten_row, leaf_part};
 
 /// An empty desk agrees with a part that made nothing, and not at an LLSN that nobody told the part. It is at work on a node
-/// that is reached, and not while it carries a frame. A page that wasn't given isn't given since. Another plan is other work.
+/// that is reached, and not while it carries a frame. A node that stays moves nothing; no call at a desk takes its primary down.
+/// A page that wasn't given isn't given since. Another plan is other work.
 /// A call that keeps the locks loses none, and one that brings no page leaves no more buffers.
 pub fn law_at_desk_examples()
     ensures agrees { DeskAgrees (desk_with [] 0) part_before_steps }
@@ -35,6 +38,9 @@ pub fn law_at_desk_examples()
     ensures at_desk { (run : Run) → Reached (node_of_first run part_before_steps)
         → IsAtDesk run (desk_with [] 0) 1 (node_of_first run part_before_steps) }
     ensures not_with_a_frame { (run : Run) (desk : Desk) (p : ℕ) (n : NodeView) → n.frames ≡ 3 ∷ [] → ¬ IsAtDesk run desk p n }
+    ensures moves { (run : Run) → Moves OnlyLooked 1 (node_of_first run part_before_steps) (node_of_first run part_before_steps) }
+    ensures goes_not_down { (run : Run) → ¬ Moves (λ q r. Unit {0}) 1 (node_of_first run part_before_steps)
+        (node_of_first run (record part_before_steps { downs = goes_down_by 1 first_down_part })) }
     ensures given { IsGivenSince part_before_steps leaf_part 1 (only_leaf unwritten_row).page (only_leaf unwritten_row) }
     ensures not_given { ¬ IsGivenSince part_before_steps part_before_steps 1 (only_leaf unwritten_row).page (only_leaf unwritten_row) }
     ensures afresh { (desk : Desk) (p : ℕ) (n : NodeView) → desk.pool ≡ [] → IsReadAfresh desk p n }

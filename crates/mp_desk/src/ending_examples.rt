@@ -49,17 +49,18 @@ pub fn law_commit_examples()
     ensures not_the_llsn { (desk : Desk) → ¬ ((mtr_of_plan desk).llsn ≡ desk.llsn) }
 {}
 
-/// Media whose log holds all of the part agree with it, with its node, for some work, and after its commit. They don't hold something unforced
-/// of a part that made no mtr.
+/// Media whose log is the primary's and holds all of the part agree with it, with its node, for some work, and after its commit.
+/// They don't where the log is another's, and don't hold something unforced of a part that made no mtr.
 pub fn law_held_media_examples<D: Disk>()
-    ensures agree { (work : Work) (media : Media D) (run : Run) → HoldsPartOf D.Disk work 0 media part_before_steps
+    ensures agree { (work : Work) (media : Media D) (run : Run) → HoldsPartOf D.Disk work 0 1 media part_before_steps
         → MediaAgree D.Disk work 0 media 1 (node_of_first run part_before_steps) }
     ensures not_agree { (work : Work) (media : Media D) (run : Run) → media.unforced ≡ true
         → ¬ MediaAgree D.Disk work 0 media 1 (node_of_first run part_before_steps) }
-    ensures holds { (work : Work) (media : Media D) → work.base ≡ nothing_before → media.unforced ≡ false
+    ensures holds { (work : Work) (media : Media D) → work.base ≡ nothing_before → media.log.tail.node ≡ 1 → media.unforced ≡ false
         → OnDisk work part_before_steps 0 media.log.tail media.unforced (D.tells media.log.disk) (D.seen media.log.disk) (D.image media.log.disk)
-        → HoldsPartOf D.Disk work 0 media part_before_steps }
-    ensures none_unforced { (work : Work) (media : Media D) → media.unforced ≡ true → ¬ HoldsPartOf D.Disk work 0 media part_before_steps }
+        → HoldsPartOf D.Disk work 0 1 media part_before_steps }
+    ensures not_anothers_log { (work : Work) (media : Media D) → media.log.tail.node ≡ 2 → ¬ HoldsPartOf D.Disk work 0 1 media part_before_steps }
+    ensures none_unforced { (work : Work) (media : Media D) → media.unforced ≡ true → ¬ HoldsPartOf D.Disk work 0 1 media part_before_steps }
     ensures somehow { (work : Work) (media : Media D) (p : ℕ) (n : NodeView) → MediaAgree D.Disk work 0 media p n
         → MediaAgreeSomehow D.Disk media p n }
     ensures not_somehow { (media : Media D) (run : Run) → media.unforced ≡ true

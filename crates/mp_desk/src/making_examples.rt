@@ -1,12 +1,13 @@
 //! What making an mtr, forcing and letting go are, and what they are not, on small cases, as the contracts of functions
 //! that do nothing.
-ghost use Rattle.std.specs.Prelude.{◌≡◌, ℕ, true, false, List, [], ◌∷◌, Some, None};
+ghost use Rattle.std.specs.Prelude.{◌≡◌, ◌<◌, ℕ, true, false, List, [], ◌∷◌, length, Some, None};
 ghost use Rattle.mp_cells.specs.declared.changes.Change.TheVariants.{MakeUndo};
 ghost use Rattle.mp_cells.specs.Plans.{plan_of};
 ghost use Rattle.mp_core_pages.specs.declared.page_lock.Held.TheVariants.{Read};
 ghost use Rattle.mp_core_pages.specs.Histories.{placed};
 ghost use Rattle.mp_core_pages.specs.PageEvents.{with_mtr};
 ghost use Rattle.mp_histories.specs.SmallHistory.{small_trx, small_put, small_restore};
+ghost use Rattle.mp_log.specs.Logs.{most_batch_bytes};
 ghost use Rattle.mp_facts.specs.SmallParts.{active_part, put_part, first_commit_mtr};
 ghost use Rattle.mp_shared.specs.Nodes.{Run};
 ghost use Rattle.mp_shared.specs.PageSteps.{with_pages};
@@ -40,13 +41,15 @@ pub fn law_making_examples()
     ensures undo_missed { ¬ IsUndoAfter ((1, MakeUndo) ∷ []) None None }
 {}
 
-/// A closed log takes no mtr. A part without mtrs has all of them durable, one with an mtr that wasn't forced has not, and
+/// A closed log takes no mtr, and none has more appended than a batch may have. A part without mtrs has all of them durable, one with an mtr that wasn't forced has not, and
 /// forcing makes none. Who lets go holds no lock.
 pub fn law_letting_go_examples()
     ensures open_log { IsOpenLog {D = ℕ} 1 5
         record { disk = 0; tail = record { node = 1; place = 0; last = 5; live = true; bytes = [] }; llsns = [] } }
     ensures closed_log { ¬ IsOpenLog {D = ℕ} 1 5
         record { disk = 0; tail = record { node = 1; place = 0; last = 5; live = false; bytes = [] }; llsns = [] } }
+    ensures overfull_log { (bytes : List ℕ) → most_batch_bytes < length bytes → ¬ IsOpenLog {D = ℕ} 1 5
+        record { disk = 0; tail = record { node = 1; place = 0; last = 5; live = true; bytes = bytes }; llsns = [] } }
     ensures all_forced { AllForced active_part active_part }
     ensures not_all_forced { ¬ AllForced put_part put_part }
     ensures none_forced { SomeForced put_part put_part }

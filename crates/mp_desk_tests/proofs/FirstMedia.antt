@@ -7,7 +7,7 @@ use Rattle.mp_core_pages.specs.declared.part.PagesPart.{PagesPart}
 use Rattle.mp_core_pages.specs.PageParts.{last_llsn, durable_llsn}
 use Rattle.mp_core.specs.Contents.{page_ops}
 use Rattle.mp_outside.specs.declared.disks.Disk.{Ghosts}
-use Rattle.mp_log.specs.Logs.{mtrs_of}
+use Rattle.mp_log.specs.Logs.{mtrs_of, IsLog}
 use Rattle.mp_log.specs.Opening.{IsOpened, first_above}
 use Rattle.mp_shared.specs.Nodes.{NodeView}
 use Rattle.mp_buffer_fusion.proofs.Visiting.{one_part}
@@ -55,7 +55,7 @@ module _ {D : Type 0} (g : Ghosts D) (media : Media D) (p : ℕ) (n : NodeView) 
   on_disk = record {
     images = λ tells c image.
         let o = log.opened tells in
-        record { batches = o.batches; text = o.stands.images c image; later = []; front = front o; covers = tt };
+        record { batches = o.batches; text = o.stands.images c image; log = subst (λ m. IsLog m o.batches) (sym log.takes.node) o.log; later = []; front = front o; covers = tt };
     live = λ alive tells. let o = log.opened tells in (o.batches, [], o.stands, front o, tt);
     last = λ some. let none = ap (λ (x : PagesPart PageView Mtr). length x.made) k.pages in absurd (omega (arith, some, none));
     forced = λ it. (
@@ -69,8 +69,9 @@ module _ {D : Type 0} (g : Ghosts D) (media : Media D) (p : ℕ) (n : NodeView) 
   pub media_first : MediaAgreeSomehow g media p n
   media_first = (
     work,
-    λ q has. subst (HoldsPartOf g work 0 media) (one_part (part_in n.parts p) k.mine q k.holds has) record {
+    λ q has. subst (HoldsPartOf g work 0 p media) (one_part (part_in n.parts p) k.mine q k.holds has) record {
       base = refl;
+      node = log.takes.node;
       on_disk = on_disk;
       some_made = λ it. let both : true ≡ false = sym it ∙ forced in absurd (cc);
     },

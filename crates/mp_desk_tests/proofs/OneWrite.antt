@@ -54,10 +54,10 @@ module _ (p : ℕ) (trx : Begun) (key : ℕ) (value : Option (List ℕ)) (former
     (wrote : (x : Placed Mtr) × Moves (MakesThen x) p before mid × IsMadeAfter before x
     × ((r : CorePart) → part_in mid.parts p ≡ Some r → PutsValue r trx key value former x.mtr))
     (gone : Moves HasLetGo p mid after) where
-  abbrev put : (r : CorePart) × (part_in mid.parts p ≡ Some r) × MakesThen wrote.0 (held_part before p held).0 r
+  abbrev put : (r : CorePart) × (part_in mid.parts p ≡ Some r) × MakesThen wrote.0 (held_part before p held).0 r × (r.downs ≡ (held_part before p held).0.downs)
   put = let part = held_part before p held in wrote.1.mine part.0 part.1
 
-  abbrev left : (r : CorePart) × (part_in after.parts p ≡ Some r) × HasLetGo put.0 r
+  abbrev left : (r : CorePart) × (part_in after.parts p ≡ Some r) × HasLetGo put.0 r × (r.downs ≡ put.0.downs)
   left = gone.mine put.0 put.1
 
   pub reads_handed : ReadsIn p trx before → ReadsIn p trx after

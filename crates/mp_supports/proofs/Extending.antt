@@ -14,6 +14,7 @@ use Rattle.mp_core_pages.proofs.Growth.{pages_extends_refl, pages_extends_trans}
 use Rattle.mp_core.specs.declared.part.CorePart.{CorePart}
 use Rattle.mp_core.specs.OwnMtrs.{TrxMtr, trx_mtrs}
 use Rattle.mp_core.specs.CoreExtends.{IsMadeLater, CoreExtends}
+use Rattle.mp_core.proofs.Downs.{downs_extend_refl, downs_extend_trans}
 
 -- an mtr with its transaction stays, whatever is made above it
 pub trx_mtr_grown : (made more : List (Placed Mtr)) (m : TrxMtr) → IsIn m (trx_mtrs made) → IsIn m (trx_mtrs (more ++ made))
@@ -70,6 +71,7 @@ core_extends_refl p = record {
   durable = omega arith;
   made_later = λ x there. inl there;
   given_later = λ g there. inl there;
+  downs = downs_extend_refl p.downs;
 }
 
 pub core_extends_trans : (p q r : CorePart) → CoreExtends p q → CoreExtends q r → CoreExtends p r
@@ -79,4 +81,5 @@ core_extends_trans p q r a b = record {
   durable = let one = a.durable in let two = b.durable in omega (arith, one, two);
   made_later = λ x there. ⊎_elim (a.made_later x) (λ later. inr (later_before p q a x.at later)) (b.made_later x there);
   given_later = λ g there. ⊎_elim (a.given_later g) (λ later. inr (λ x made. later x (placed_in p q a x made))) (b.given_later g there);
+  downs = downs_extend_trans p.downs q.downs r.downs a.downs b.downs;
 }

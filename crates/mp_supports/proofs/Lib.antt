@@ -5,6 +5,7 @@ pub mod Keeping
 pub mod SmallParts
 pub mod Classes
 pub mod Unchanged
+pub mod KeptBatches
 pub mod Media
 pub mod Places
 pub mod Formers

@@ -1,5 +1,5 @@
 -- What the media hold, where a step makes nothing and forces nothing, and where it makes an mtr or forces.
-use Rattle.std.proofs.Common.{◌≡◌, ℕ, ◌<◌, Bool, true, false, List, [], ◌∷◌, ◌++◌, length, map, reverse, refl, sym, ap, subst, ◌∙◌, append_assoc, append-nil, arith}
+use Rattle.std.proofs.Common.{◌≡◌, ℕ, ◌<◌, Bool, true, false, List, [], ◌∷◌, ◌++◌, length, map, reverse, sym, ap, subst, ◌∙◌, append_assoc, append-nil, arith}
 use Rattle.std.specs.List.{AllByRecursion}
 use Rattle.std.proofs.lemmas.List.{map-append, reverse-append}
 use Rattle.mp_script.proofs.Lists.{all_append}
@@ -10,12 +10,14 @@ use Rattle.mp_core_pages.specs.PageParts.{durable_llsn, last_llsn}
 use Rattle.mp_core.specs.declared.part.CorePart.{CorePart}
 use Rattle.mp_core.specs.Contents.{page_ops}
 use Rattle.mp_core.specs.CoreExtends.{durable_of, CoreExtends}
+use Rattle.mp_log.specs.Logs.{IsLog}
 use Rattle.mp_log.specs.Tails.{TailView, LogStands}
 use Rattle.mp_supports.specs.Work.{Work}
 use Rattle.mp_supports.specs.Steps.{MadeOne, Forced}
 use Rattle.mp_supports.specs.Agreement.{last_made_llsn}
 use Rattle.mp_supports.specs.Media.{mtrs_in_order, above_base, IsOnImage, OnDisk}
 use Rattle.mp_supports.proofs.Unchanged.{same_last}
+use Rattle.mp_supports.proofs.KeptBatches.{kept_batches}
 
 module _ (p q : CorePart) (e : CoreExtends p q) (made : q.pages.made ≡ p.pages.made) (durables : q.pages.durables ≡ p.pages.durables) where
   same_durable : durable_of q ≡ durable_of p
@@ -24,10 +26,11 @@ module _ (p q : CorePart) (e : CoreExtends p q) (made : q.pages.made ≡ p.pages
   same_order : mtrs_in_order q ≡ mtrs_in_order p
   same_order = ap (λ (l : List (Placed Mtr)). mtrs_in_order (record p { pages = record (p.pages) { made = l } })) made
 
-  image_kept : (work : Work) (c : List ℕ) → IsOnImage work p c → IsOnImage work q c
-  image_kept work c h = record {
+  image_kept : (work : Work) (number : ℕ) (c : List ℕ) → IsOnImage work number p c → IsOnImage work number q c
+  image_kept work number c h = record {
     batches = h.batches;
     text = h.text;
+    log = h.log;
     later = h.later;
     front = same_order ∙ h.front;
     covers = subst (λ n. AllByRecursion (λ (mtr : Mtr). n < mtr.llsn) h.later) (sym same_durable) h.covers;
@@ -35,7 +38,7 @@ module _ (p q : CorePart) (e : CoreExtends p q) (made : q.pages.made ≡ p.pages
 
   pub disk_kept : (work : Work) (down : ℕ) (tail : TailView) (unforced tells : Bool) (seen : List ℕ) (image : List ℕ → Type 0) → OnDisk work p down tail unforced tells seen image → OnDisk work q down tail unforced tells seen image
   disk_kept work down tail unforced tells seen image h = record {
-    images = λ told c is. image_kept work c (h.images told c is);
+    images = λ told c is. image_kept work tail.node c (h.images told c is);
     live = λ live told. let stands = h.live live told in (stands.0, stands.1, stands.2, same_order ∙ stands.3, subst (λ n. AllByRecursion (λ (mtr : Mtr). n < mtr.llsn) stands.1) (sym same_durable) stands.4);
     last = λ some. h.last (let count : length q.pages.made ≡ length p.pages.made = ap (λ (l : List (Placed Mtr)). length l) made in omega (arith, some, count)) ∙ sym (same_last p q e made);
     forced = λ none. let both = h.forced none in (same_last p q e made ∙ both.0 ∙ sym same_durable, both.1);
@@ -53,13 +56,14 @@ module _ (work : Work) (p q : CorePart) (down : ℕ) (tells : Bool) (seen : List
   -- one mtr more, which isn't durable, was appended
   pub disk_made : (x : Placed Mtr) (old tail : TailView) (unforced : Bool) → MadeOne x p q → durable_of q < x.mtr.llsn → OnDisk work p down old unforced tells seen image
       → ((batches : List (List Mtr)) (pending : List Mtr) → LogStands batches pending old seen image → LogStands batches (pending ++ x.mtr ∷ []) tail seen image)
-      → tail.last ≡ x.mtr.llsn → tail.live ≡ old.live → OnDisk work q down tail true tells seen image
-  disk_made x old tail unforced step above h appended last live = record {
+      → tail.node ≡ old.node → tail.last ≡ x.mtr.llsn → tail.live ≡ old.live → OnDisk work q down tail true tells seen image
+  disk_made x old tail unforced step above h appended node last live = record {
     images = λ told c is.
         let before = h.images told c is in
         record {
           batches = before.batches;
           text = before.text;
+          log = subst (λ n. IsLog n before.batches) (sym node) before.log;
           later = before.later ++ x.mtr ∷ [];
           front = order_more p q x step.made ∙ ap (λ l. l ++ x.mtr ∷ []) before.front ∙ append_assoc (above_base work before.batches) before.later (x.mtr ∷ []);
           covers = undurable before.later before.covers;
@@ -90,7 +94,7 @@ module _ (work : Work) (p q : CorePart) (down : ℕ) (tells : Bool) (seen : List
   pub disk_forced : (tail : TailView) (batches : List (List Mtr)) → Forced (last_made_llsn p) p q → LogStands batches [] tail seen image → mtrs_in_order p ≡ above_base work batches
       → tail.live ≡ true → (0 < length p.pages.made → tail.last ≡ last_made_llsn p) → OnDisk work q down tail false tells seen image
   disk_forced tail batches step stands order is_live last = record {
-    images = λ told c is. record { batches = batches; text = stands.images c is; later = []; front = all; covers = tt };
+    images = λ told c is. record { batches = batches; text = stands.images c is; log = kept_batches batches [] tail seen image stands; later = []; front = all; covers = tt };
     live = λ live told. (batches, [], stands, all, tt);
     last = λ some. last (let count : length q.pages.made ≡ length p.pages.made = ap (λ (l : List (Placed Mtr)). length l) step.made in omega (arith, some, count)) ∙ sym (same_last p q step.extends step.made);
     forced = λ e. (same_last p q step.extends step.made ∙ sym (ap (λ l. durable_llsn q.trx.opening.base.llsn l) step.durables), stands.bytes);

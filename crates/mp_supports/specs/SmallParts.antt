@@ -25,6 +25,7 @@ use Rattle.mp_core_pages.specs.declared.part.GivenPage.{GivenPage}
 use Rattle.mp_core_pages.specs.PageParts.{given_page}
 use Rattle.mp_core.specs.declared.part.CorePart.{CorePart}
 use Rattle.mp_core.specs.Commits.{commit_records}
+use Rattle.mp_core.specs.Downs.{first_down_part}
 use Rattle.mp_core.specs.OwnMtrs.{TrxMtr}
 use Rattle.mp_book.specs.declared.session.Session.{Session}
 use Rattle.mp_book.specs.declared.stage.Stage.TheVariants.{Open}
@@ -72,6 +73,7 @@ small_part loaded given made = record {
     loaded = loaded;
   };
   pages = record { made = made; durables = 1 ∷ []; locks = []; frames = []; gave = []; contents = []; given = given };
+  downs = first_down_part;
   ops = 0;
 }
 
@@ -80,6 +82,7 @@ abbrev pub part_before_steps : CorePart
 part_before_steps = record {
   trx = record { opening = record { base = nothing_before; primaries = 2; begins = 3 }; begun = []; rows = []; drew = []; seen = []; loaded = [] };
   pages = record { made = []; durables = []; locks = []; frames = []; gave = []; contents = []; given = [] };
+  downs = first_down_part;
   ops = 0;
 }
 

@@ -1,6 +1,6 @@
 //! Small examples of supports, as the contracts of functions that do nothing.
 
-ghost use Rattle.std.specs.Prelude.{ℕ, true, ◌≡◌, [], ◌∷◌, None, Some, replicate};
+ghost use Rattle.std.specs.Prelude.{ℕ, List, true, ◌≡◌, [], ◌∷◌, None, Some, replicate};
 ghost use Rattle.mp_model.specs.declared.replies.Reply.{Reply};
 ghost use Rattle.mp_model.specs.declared.replies.WriteVerb.{WriteVerb};
 ghost use Rattle.mp_script.specs.declared.statements.Stmt.{Stmt};
@@ -12,7 +12,7 @@ ghost use Rattle.mp_core.specs.CoreExtends.{CoreExtends};
 ghost use Rattle.mp_supports.specs.Agreement.{Opens, Mirrors, Bounds};
 ghost use Rattle.mp_supports.specs.Kept.{Precedes, Kept, Did, GoesDownOnce, MayBeKept};
 ghost use Rattle.mp_supports.specs.Steps.{OnlyLooked, MadeOne, Forced, TrxStep};
-ghost use Rattle.mp_supports.specs.Media.{OnDisk};
+ghost use Rattle.mp_supports.specs.Media.{IsOnImage, OnDisk};
 ghost use Rattle.mp_supports.specs.SmallParts.{older_trx, own_trx, younger_trx, line_of, work_with, answered_with, small_part, part_before_steps, version_by, only_leaf, first_link, only_undo, only_meta, load_showing, open_part, open_session, put_over, commit_mtr, made_at_four, own_mtr, forced_to, read_entry, write_entry, older_name, own_name, younger_name};
 
 /// A `begin` is answered with the view with which its transaction was begun, and with no other.
@@ -96,10 +96,12 @@ pub fn law_agreement_examples()
     ensures not_two_mtrs { ¬ Bounds (work_with Stmt.Commit) (small_part [] [] (record { at = 5; mtr = commit_mtr 2 } ∷ made_at_four (commit_mtr 1))) [] [] }
 {}
 
-/// An empty log holds what a part without mtrs made, and not what one made whose log is durable up to its mtr.
+/// An empty log holds what a part without mtrs made, and not what one made whose log is durable up to its mtr. No image of
+/// another primary's log has that mtr.
 pub fn law_media_examples()
     ensures nothing_made { OnDisk (work_with Stmt.Commit) (small_part [] [] []) 0 record { node = 1; place = 0; last = 0; live = true; bytes = [] } true true (0 ∷ []) (λ c. c ≡ 0 ∷ []) }
     ensures not_without_its_mtr { ¬ OnDisk (work_with Stmt.Commit) (small_part [] [] (made_at_four (commit_mtr 1))) 0 record { node = 1; place = 0; last = 1; live = true; bytes = [] } true true (0 ∷ []) (λ c. c ≡ 0 ∷ []) }
+    ensures not_anothers { (image : List ℕ) → ¬ IsOnImage (work_with Stmt.Commit) 2 (small_part [] [] (made_at_four (commit_mtr 1))) image }
 {}
 
 /// What a primary keeps before any step is no entry; a begin that no entry has isn't kept so. A turn without a step left

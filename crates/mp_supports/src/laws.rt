@@ -138,14 +138,14 @@ pub fn law_bounds_go_on()
         → Bounds work p answers sessions → Bounds work q (answers ++ more) (slice_set sessions number after) }
 {}
 
-/// What the media hold stays where a step only looks, or is one of transactions. An mtr that was made must be appended, and
-/// be above what is durable; a force must have left all mtrs in the log's batches.
+/// What the media hold stays where a step only looks, or is one of transactions. An mtr that was made must be appended to the
+/// same primary's log, and be above what is durable; a force must have left all mtrs in the log's batches.
 pub fn law_steps_keep_media<D: Disk>()
     ensures looked { (work : Work) (p q : CorePart) (down : ℕ) (tail : TailView) (unforced : Bool) (disk : D) → OnlyLooked p q → OnDisk work p down tail unforced (D.tells disk) (D.seen disk) (D.image disk) → OnDisk work q down tail unforced (D.tells disk) (D.seen disk) (D.image disk) }
     ensures trx { (work : Work) (p q : CorePart) (down : ℕ) (tail : TailView) (unforced : Bool) (disk : D) → TrxStep p q → OnDisk work p down tail unforced (D.tells disk) (D.seen disk) (D.image disk) → OnDisk work q down tail unforced (D.tells disk) (D.seen disk) (D.image disk) }
     ensures made { (work : Work) (p q : CorePart) (down : ℕ) (x : Placed Mtr) (old tail : TailView) (unforced : Bool) (disk : D) → MadeOne x p q → durable_of q < x.mtr.llsn → OnDisk work p down old unforced (D.tells disk) (D.seen disk) (D.image disk)
         → ((batches : List (List Mtr)) (pending : List Mtr) → LogStands batches pending old (D.seen disk) (D.image disk) → LogStands batches (pending ++ x.mtr ∷ []) tail (D.seen disk) (D.image disk))
-        → tail.last ≡ x.mtr.llsn → tail.live ≡ old.live → OnDisk work q down tail true (D.tells disk) (D.seen disk) (D.image disk) }
+        → tail.node ≡ old.node → tail.last ≡ x.mtr.llsn → tail.live ≡ old.live → OnDisk work q down tail true (D.tells disk) (D.seen disk) (D.image disk) }
     ensures forced { (work : Work) (p q : CorePart) (down : ℕ) (tail : TailView) (batches : List (List Mtr)) (disk : D) → Forced (last_made_llsn p) p q → LogStands batches [] tail (D.seen disk) (D.image disk) → mtrs_in_order p ≡ above_base work batches
         → tail.live ≡ true → (0 < length p.pages.made → tail.last ≡ last_made_llsn p) → OnDisk work q down tail false (D.tells disk) (D.seen disk) (D.image disk) }
 {}

@@ -4,13 +4,16 @@ use Rattle.mp_cells.specs.Plans.{Plan}
 use Rattle.mp_core_trx.specs.Events.{IsNode}
 use Rattle.mp_core_pages.specs.declared.page_lock.Held.TheVariants.{No, Read}
 use Rattle.mp_core.specs.declared.part.CorePart.{CorePart}
+use Rattle.mp_core.specs.declared.part.DownPart.{DownPart}
+use Rattle.mp_core.specs.Downs.{first_down_part, goes_down_by}
+use Rattle.mp_shared.specs.SmallNodes.{node_of_first}
 use Rattle.mp_buffer_fusion.specs.PoolExamples.{blank_buffer}
 use Rattle.mp_supports.specs.SmallParts.{part_before_steps}
 use Rattle.mp_supports.proofs.Extending.{core_extends_refl}
 use Rattle.mp_supports.proofs.SmallParts.{no_none}
 use Rattle.mp_desk.specs.Desks.{DeskAgrees}
 use Rattle.mp_desk.specs.SmallDesks.{desk_with}
-use Rattle.mp_desk.proofs.Moving.{locks_none}
+use Rattle.mp_desk.proofs.Moving.{looks_none, locks_none}
 use Rattle.mp_desk.proofs.AtDesk.{brings_none, given_emptied}
 use Rattle.mp_desk.proofs.SmallMaking.{only_first}
 use Rattle.mp_desk.proofs.desk_examples.law_at_desk_examples.Goals as goal
@@ -54,6 +57,16 @@ returns-clause-at_desk c = λ run reached. record {
 
 pub returns-clause-not_with_a_frame : goal.returns-clause-not_with_a_frame
 returns-clause-not_with_a_frame c = λ run desk p n three at. none_one 3 [] (sym three ∙ at.frames)
+
+pub returns-clause-moves : goal.returns-clause-moves
+returns-clause-moves c = λ run. looks_none 1 (node_of_first run part_before_steps)
+
+pub returns-clause-goes_not_down : goal.returns-clause-goes_not_down
+returns-clause-goes_not_down c = λ run h.
+    let moved = h.mine part_before_steps refl in
+    let down : CorePart = record part_before_steps { downs = goes_down_by 1 first_down_part } in
+    let own : 1 ≡ 0 = ap (λ (r : CorePart). r.downs.own) (only_first run down 1 moved.0 moved.1) ∙ ap (λ (d : DownPart). d.own) moved.3 in
+    omega (arith, own)
 
 pub returns-clause-given : goal.returns-clause-given
 returns-clause-given c = record { given = inl refl; number = refl; page_is = refl; knew = lit≤ tt; since = λ x none. absurd none }

@@ -4,6 +4,8 @@ use Rattle.mp_core_trx.specs.declared.slot.Shown.{Shown}
 use Rattle.mp_core_trx.specs.Parts.{begun_of}
 use Rattle.mp_core_pages.specs.declared.part.Placed.{Placed}
 use Rattle.mp_supports.specs.Steps.{MadeOne}
+use Rattle.mp_core.specs.Downs.{first_down_part}
+use Rattle.mp_core.proofs.Downs.{downs_extend_refl}
 use Rattle.mp_supports.specs.SmallParts.{own_trx, commit_mtr, made_at_four, forced_to}
 use Rattle.mp_supports.proofs.SmallParts.{no_none}
 use Rattle.mp_desk.specs.Making.{AllForced}
@@ -29,6 +31,7 @@ makes_record = record {
     durable = lit≤ tt;
     made_later = λ m there. inr (record { above_made = λ x none. absurd none; above_given = λ g none. absurd none });
     given_later = λ g none. absurd none;
+    downs = downs_extend_refl first_down_part;
   };
   trx = refl;
   made = refl;
@@ -49,6 +52,7 @@ all_forced = (
       durable = lit≤ tt;
       made_later = λ m there. inl there;
       given_later = λ g none. absurd none;
+      downs = downs_extend_refl first_down_part;
     };
     trx = refl;
     made = refl;

@@ -42,7 +42,7 @@ makes_restore =
     let x : Placed Mtr = placed 1 small_restore in
     let m = made_one put_part x later in
     record {
-      extends = record { trx = m.extends.trx; pages = m.extends.pages; durable = m.extends.durable; made_later = m.extends.made_later; given_later = m.extends.given_later };
+      extends = record { trx = m.extends.trx; pages = m.extends.pages; durable = m.extends.durable; made_later = m.extends.made_later; given_later = m.extends.given_later; downs = m.extends.downs };
       trx = refl;
       made = refl;
       durables = refl;
@@ -71,7 +71,7 @@ restore_moves run = record {
   run = refl;
   frames = refl;
   others = others_same run put_part restored_part;
-  mine = λ q has. (restored_part, refl, subst (λ (r : CorePart). MadeOne (placed 1 small_restore) r restored_part) (only_first run put_part 1 q has) makes_restore);
+  mine = λ q has. (restored_part, refl, subst (λ (r : CorePart). MadeOne (placed 1 small_restore) r restored_part) (only_first run put_part 1 q has) makes_restore, ap (λ (r : CorePart). r.downs) (only_first run put_part 1 q has));
 }
 
 pub returns-clause-later : goal.returns-clause-later

@@ -22,10 +22,13 @@ read_not_no : Read ≡ No → ⊥
 read_not_no e = absurd cc
 
 pub returns-clause-open_log : goal.returns-clause-open_log
-returns-clause-open_log c = record { live = refl; node = refl; last = omega arith }
+returns-clause-open_log c = record { live = refl; node = refl; last = omega arith; fits = omega arith }
 
 pub returns-clause-closed_log : goal.returns-clause-closed_log
 returns-clause-closed_log c h = false≢true h.live
+
+pub returns-clause-overfull_log : goal.returns-clause-overfull_log
+returns-clause-overfull_log c = λ bytes more h. let fits = h.fits in omega (arith, more, fits)
 
 pub returns-clause-all_forced : goal.returns-clause-all_forced
 returns-clause-all_forced c = (refl, inl refl)

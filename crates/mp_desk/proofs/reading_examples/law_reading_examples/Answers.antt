@@ -7,6 +7,8 @@ use Rattle.mp_core_trx.specs.declared.slot.SlotTag.TheVariants.{Active, Prep}
 use Rattle.mp_core_trx.specs.Words.{shows, shown_of}
 use Rattle.mp_core_trx.specs.Parts.{trx, begun_of}
 use Rattle.mp_core_pages.specs.declared.part.Placed.{Placed}
+use Rattle.mp_core.specs.Downs.{first_down_part}
+use Rattle.mp_core.proofs.Downs.{downs_extend_refl}
 use Rattle.mp_supports.specs.SmallParts.{own_trx, younger_trx, small_part, open_part, load_showing, commit_mtr, made_at_four}
 use Rattle.mp_supports.proofs.Extending.{core_extends_refl}
 use Rattle.mp_supports.proofs.SmallParts.{no_none, only_one, others}
@@ -25,6 +27,7 @@ returns-clause-quiet c = record {
     durable = lit≤ tt;
     made_later = λ m none. absurd none;
     given_later = λ g none. absurd none;
+    downs = downs_extend_refl first_down_part;
   };
   begun = refl;
   rows = refl;
@@ -46,6 +49,7 @@ returns-clause-makes c = record {
       durable = lit≤ tt;
       made_later = λ m there. inr (record { above_made = λ x none. absurd none; above_given = λ g none. absurd none });
       given_later = λ g none. absurd none;
+      downs = downs_extend_refl first_down_part;
     };
     trx = refl;
     made = refl;

@@ -1,11 +1,12 @@
-use Rattle.std.proofs.Common.{◌≡◌, ◌<◌, ℕ, true, false, List, [], ◌∷◌, ◌++◌, refl, sym, ap, subst, ◌∙◌, arith}
+use Rattle.std.proofs.Common.{◌≡◌, ◌<◌, ◌⊎◌, ℕ, true, false, nat_lt, List, [], ◌∷◌, ◌++◌, refl, sym, ap, subst, ◌∙◌, inl, inr, ⊎_elim, arith}
 use Rattle.std.specs.List.{AllByRecursion}
+use Rattle.mp_script.proofs.Lists.{all_append, all_map}
 use Rattle.mp_cells.specs.declared.records.Mtr.{Mtr}
-use Rattle.mp_core.specs.CoreExtends.{durable_of}
-use Rattle.mp_log.specs.Logs.{batches_text, IsText}
+use Rattle.mp_cells.proofs.KeyEdits.{All-filter}
+use Rattle.mp_log.specs.Logs.{mtrs_of, IsOf, IsText}
 use Rattle.mp_script.specs.declared.statements.Stmt.TheVariants.{Commit}
-use Rattle.mp_supports.specs.Media.{mtrs_in_order, above_base, IsOnImage}
-use Rattle.mp_supports.specs.SmallParts.{work_with, small_part, commit_mtr, made_at_four}
+use Rattle.mp_supports.specs.Media.{above_base}
+use Rattle.mp_supports.specs.SmallParts.{work_with, commit_mtr}
 use Rattle.mp_supports.proofs.examples.law_media_examples.Goals as goal
 
 -- a closed gate alone
@@ -17,7 +18,7 @@ true_false e = cc
 
 pub returns-clause-nothing_made : goal.returns-clause-nothing_made
 returns-clause-nothing_made c = record {
-  images = λ told file is. record { batches = []; text = subst (λ f. IsText [] f) (sym is) empty_text; later = []; front = refl; covers = tt };
+  images = λ told file is. record { batches = []; text = subst (λ f. IsText [] f) (sym is) empty_text; log = record { mtrs = record { each = tt; rising = refl }; sizes = tt }; later = []; front = refl; covers = tt };
   live = λ live told. (
     [],
     [],
@@ -55,3 +56,16 @@ returns-clause-not_without_its_mtr c = λ h.
     let covers : AllByRecursion (λ (mtr : Mtr). 1 < mtr.llsn) (commit_mtr 1 ∷ []) = subst (λ l. AllByRecursion (λ (mtr : Mtr). 1 < mtr.llsn) l) (sym later) image.covers in
     let above : 1 < 1 = covers.0 in
     omega (arith, above)
+
+-- an mtr of another primary's log, or one that isn't durable
+abbrev IsAnothers : Mtr → Type 0
+IsAnothers mtr = (mtr.node ≡ 2) ⊎ (1 < mtr.llsn)
+
+pub returns-clause-not_anothers : goal.returns-clause-not_anothers
+returns-clause-not_anothers c = λ file image.
+    let logged = all_map (IsOf 2) IsAnothers (above_base (work_with Commit) image.batches) (λ mtr of. inl of.1)
+    (All-filter (IsOf 2) (λ (mtr : Mtr). nat_lt 0 mtr.llsn) (mtrs_of image.batches) image.log.mtrs.each) in
+    let later = all_map (λ (mtr : Mtr). 1 < mtr.llsn) IsAnothers image.later (λ mtr above. inr above) image.covers in
+    let all : AllByRecursion IsAnothers (commit_mtr 1 ∷ []) =
+    subst (AllByRecursion IsAnothers) (sym image.front) (all_append IsAnothers (above_base (work_with Commit) image.batches) image.later logged later) in
+    ⊎_elim (λ (node : 1 ≡ 2). omega (arith, node)) (λ (above : 1 < 1). omega (arith, above)) all.0

@@ -3,6 +3,8 @@ use Rattle.mp_cells.specs.declared.records.Mtr.{Mtr}
 use Rattle.mp_cells.specs.PageView.{PageView}
 use Rattle.mp_core_pages.specs.declared.part.PagesPart.{PagesPart}
 use Rattle.mp_core_pages.specs.declared.part.Placed.{Placed}
+use Rattle.mp_core.specs.Downs.{first_down_part}
+use Rattle.mp_core.proofs.Downs.{downs_extend_refl}
 use Rattle.mp_supports.specs.SmallParts.{made_at_four, commit_mtr, open_part}
 use Rattle.mp_supports.proofs.examples.law_steps_examples.Goals as goal
 
@@ -14,6 +16,7 @@ returns-clause-made c = record {
     durable = lit≤ tt;
     made_later = λ m there. inr (record { above_made = λ x none. absurd none; above_given = λ g none. absurd none });
     given_later = λ g none. absurd none;
+    downs = downs_extend_refl first_down_part;
   };
   trx = refl;
   made = refl;
@@ -32,6 +35,7 @@ returns-clause-forced c = record {
     durable = lit≤ tt;
     made_later = λ m none. absurd none;
     given_later = λ g none. absurd none;
+    downs = downs_extend_refl first_down_part;
   };
   trx = refl;
   made = refl;
@@ -51,6 +55,7 @@ returns-clause-trx c = record {
     durable = lit≤ tt;
     made_later = λ m none. absurd none;
     given_later = λ g none. absurd none;
+    downs = downs_extend_refl first_down_part;
   };
   pages = refl;
 }

@@ -20,8 +20,8 @@ pub returns-in_err-force-clause-agrees : goal.returns-in_err-force-clause-agrees
 returns-in_err-force-clause-agrees g c work agree =
     let returned = err_from_is_err_and c.from_residual.result c.from_residual.ensures.1 in
     let node = (held_part c.args.node.now c.args.p c.requires.part).2 in
-    let kept = media_not_forced g.D.Disk work c.args.p c.args.self.now (record { log = c.force.new.self; unforced = c.args.self.now.unforced }) c.args.node.now c.requires.reached c.requires.log.1.live c.in_err-force.ensures.tells c.in_err-force.ensures.last agree
-    c.args.p (not_zero c.args.p node.0) c.if-not-self.false c.if-not-self.false c.in_err-force.ensures.closed c.in_err-force.ensures.either in
+    let kept = media_not_forced g.D.Disk work c.args.p c.args.self.now (record { log = c.force.new.self; unforced = c.args.self.now.unforced }) c.args.node.now c.requires.reached c.requires.log.1.live c.in_err-force.ensures.tells c.in_err-force.ensures.node c.in_err-force.ensures.last agree
+    c.args.p (not_zero c.args.p node.0) c.requires.log.1.fits c.if-not-self.false c.if-not-self.false c.in_err-force.ensures.closed c.in_err-force.ensures.either in
     rw (returned.1) (tt, kept)
 
 pub store_durable-requires-clause-step : goal.store_durable-requires-clause-step
@@ -59,7 +59,7 @@ returns-clause-agrees g c work agree =
     let v = c.last.result in
     let more : durable_of held.0 ≤ v = omega (arith, last, durable) in
     let took = c.store_durable.ensures in (
-      media_forced_on g.D.Disk work c.args.p c.args.self.now (record { log = c.force.new.self; unforced = false }) before c.requires.reached c.requires.log.1.live c.in_ok-force.ensures.tells c.in_ok-force.ensures.last agree
+      media_forced_on g.D.Disk work c.args.p c.args.self.now (record { log = c.force.new.self; unforced = false }) before c.requires.reached c.requires.log.1.live c.in_ok-force.ensures.tells c.in_ok-force.ensures.node c.in_ok-force.ensures.last agree
           after held.0 held.1 (forced_part before after c.args.p v held.0 held.1 last more took) (has_forced before after c.args.p v held.0 held.1 last more took)
           (step_forced before after c.args.p v held.0 held.1 last more took) (now_durable before after c.args.p v held.0 held.1 last more took) refl c.in_ok-force.ensures.live c.in_ok-force.ensures.emptied c.in_ok-force.ensures.forced,
       tt,
