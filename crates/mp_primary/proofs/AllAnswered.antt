@@ -1,5 +1,5 @@
--- Where no session has anything left, each statement of a primary's sessions is answered.
-use Rattle.std.proofs.Common.{◌≡◌, ℕ, zero, suc, ◌<◌, ◌≤◌, ◌==◌, ◌&&◌, Bool, true, false, List, [], ◌∷◌, ◌++◌, length, take, slice_get, if◌then◌else◌, Option, None, Some, refl, ap, subst, ◌∙◌, arith}
+-- Where no session has a statement left, each statement of a primary's sessions is answered.
+use Rattle.std.proofs.Common.{◌≡◌, ℕ, zero, suc, ◌<◌, ◌≤◌, ◌==◌, ◌&&◌, Bool, true, false, List, [], ◌∷◌, ◌++◌, length, take, slice_get, if◌then◌else◌, Option, None, Some, is_none, refl, ap, subst, ◌∙◌, arith}
 use Rattle.std.proofs.Math.Seq.{take-length}
 use Rattle.std.proofs.lemmas.Bool.Decides.{nat_tests}
 use Rattle.std.proofs.lemmas.List.{append-nil, append_assoc, length-map}
@@ -17,6 +17,7 @@ use Rattle.mp_book.specs.Stages.{next_line, task_by}
 use Rattle.mp_book.specs.Through.{is_no_task, has_no_task, have_no_task}
 use Rattle.mp_book.specs.Books.{IsBook, SessionStands}
 use Rattle.mp_book.proofs.Items.{stands_there}
+use Rattle.mp_primary.specs.Answering.{has_no_line, have_no_line}
 
 -- ---- lists
 
@@ -48,17 +49,28 @@ both_true : (a b : Bool) → (a && b) ≡ true → (a ≡ true) × (b ≡ true)
 both_true true b e = (refl, e)
 both_true false b e = absurd cc
 
--- no session that stands there has anything left
-none_left_at : (xs : List Session) (i : ℕ) (s : Session) → have_no_task xs ≡ true → slice_get xs i ≡ Some s → has_no_task s ≡ true
+-- no session that stands there has a statement left
+none_left_at : (xs : List Session) (i : ℕ) (s : Session) → have_no_line xs ≡ true → slice_get xs i ≡ Some s → has_no_line s ≡ true
 none_left_at [] i s all at = absurd cc
 none_left_at (x ∷ xs) zero s all at =
     let same : x ≡ s = cc in
-    subst (λ (v : Session). has_no_task v ≡ true) same (both_true (has_no_task x) (have_no_task xs) all).0
-none_left_at (x ∷ xs) (suc i) s all at = none_left_at xs i s (both_true (has_no_task x) (have_no_task xs) all).1 at
+    subst (λ (v : Session). has_no_line v ≡ true) same (both_true (has_no_line x) (have_no_line xs) all).0
+none_left_at (x ∷ xs) (suc i) s all at = none_left_at xs i s (both_true (has_no_line x) (have_no_line xs) all).1 at
 
-none_stated_left : (o : Option Line) (stage : Stage) → is_no_task (task_by o stage) ≡ true → o ≡ None
-none_stated_left None stage e = refl
-none_stated_left (Some line) stage e = absurd cc
+none_stated_left : (o : Option Line) → is_none o ≡ true → o ≡ None
+none_stated_left None e = refl
+none_stated_left (Some line) e = absurd cc
+
+-- a session that has nothing left has no statement left
+no_line_by : (o : Option Line) (stage : Stage) → is_no_task (task_by o stage) ≡ true → is_none o ≡ true
+no_line_by None stage e = refl
+no_line_by (Some line) stage e = absurd cc
+
+pub no_task_no_line : (sessions : List Session) → have_no_task sessions ≡ true → have_no_line sessions ≡ true
+no_task_no_line [] all = refl
+no_task_no_line (s ∷ sessions) all =
+    let both = both_true (has_no_task s) (have_no_task sessions) all in
+    rw (no_line_by (next_line s) s.stage both.0) (no_task_no_line sessions both.1)
 
 -- ---- the answers
 
@@ -81,7 +93,7 @@ module _ (lines : List Line) (sessions : List SessionOn) (primary : ℕ) where
           let same : answered session (above ++ answer ∷ []) ≡ answered session above = answered_append session above (answer ∷ []) ∙ ap (λ (l : List ℕ). answered session above ++ l) none ∙ append-nil (answered session above) in
           rw same so_far
 
-  module _ (book : Book) (is : IsBook lines sessions primary book) (through : have_no_task book.sessions.items ≡ true) (session : ℕ) (below : session < 65) (on : is_session_on sessions session primary ≡ true) where
+  module _ (book : Book) (is : IsBook lines sessions primary book) (through : have_no_line book.sessions.items ≡ true) (session : ℕ) (below : session < 65) (on : is_session_on sessions session primary ≡ true) where
     own : (s : Session) × (slice_get book.sessions.items session ≡ Some s)
     own = stands_there book.sessions.items session (let whole = is.whole in omega (arith, whole, below))
 
@@ -89,7 +101,7 @@ module _ (lines : List Line) (sessions : List SessionOn) (primary : ℕ) where
     stands = is.each session own.0 own.1
 
     over : next_line own.0 ≡ None
-    over = none_stated_left (next_line own.0) (own.0).stage (none_left_at book.sessions.items session own.0 through own.1)
+    over = none_stated_left (next_line own.0) (none_left_at book.sessions.items session own.0 through own.1)
 
     its_lines : (own.0).lines.items ≡ session_lines session lines
     its_lines = stands.lines_are ∙ ap (λ (b : Bool). if b then session_lines session lines else []) on

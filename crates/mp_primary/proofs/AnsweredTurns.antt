@@ -1,6 +1,6 @@
 -- A turn that answered a session's next statement.
-use Rattle.std.proofs.Common.{◌≡◌, ◌≢◌, ℕ, suc, ◌+◌, ◌<◌, ◌≤◌, ◌⊎◌, Bool, true, false, List, [], ◌∷◌, ◌++◌, length, slice_get, slice_set, Option, None, Some, IfSome, if◌then◌else◌, filter_map, refl, sym, ap, subst, ◌∙◌, inl, inr, arith}
-use Rattle.std.specs.List.{AllByRecursion, list_any}
+use Rattle.std.proofs.Common.{◌≡◌, ℕ, suc, ◌+◌, Bool, true, false, List, [], ◌∷◌, ◌++◌, length, slice_get, Option, None, Some, IfSome, refl, sym, ap, subst, ◌∙◌, inl, arith}
+use Rattle.std.specs.List.{AllByRecursion}
 use Rattle.mp_machine.specs.View.{part_in}
 use Rattle.mp_model.specs.declared.replies.Answer.{Answer}
 use Rattle.mp_model.specs.declared.replies.Reply.{Reply}
@@ -21,7 +21,7 @@ use Rattle.mp_book.specs.Books.{IsBook, IsNext, IsAnswered, SessionStands}
 use Rattle.mp_book.proofs.OwnLines.{IsFoundAt, found_at}
 use Rattle.mp_cells.specs.declared.rows.Row.{Row}
 use Rattle.mp_outside.specs.declared.disks.Disk.{Ghosts}
-use Rattle.mp_shared.specs.Nodes.{Run, NodeView}
+use Rattle.mp_shared.specs.Nodes.{NodeView}
 use Rattle.mp_supports.specs.Work.{Work}
 use Rattle.mp_supports.specs.Supports.{Trace}
 use Rattle.mp_supports.specs.Kept.{Entry, answers_in, Kept, Did, GoesDownOnce, MayBeKept}
@@ -63,7 +63,7 @@ module _ {D : Type 0} (g : Ghosts D) (old new : PrimaryView D) where
     pub sessions : AreSessions r new.book.sessions.items
     pub waits : AreWaitsSupported new.work r new.book.sessions.items
     pub mirrors : Mirrors r new.down new.desk.llsn new.desk.undo
-    pub media : HoldsPartOf g new.work new.down new.media r
+    pub media : HoldsPartOf g new.work new.down new.number new.media r
     pub bounds : Bounds new.work r new.book.answers.items new.book.sessions.items
 
   module _ (before after : NodeView) (number : ℕ) (s : Session) (line : Line) (reply : Reply) (stage : Stage) (formers : List Row) (restored : ℕ) (next : IsNext old.book number s line) (is : IsAnswered old.book new.book number s line reply stage formers restored) (same : new.number ≡ old.number) (work : new.work ≡ old.work) (trace : Trace) where
@@ -89,7 +89,7 @@ module _ {D : Type 0} (g : Ghosts D) (old new : PrimaryView D) where
                 ap (λ (o : TrxOpening). o.begins) so.did.extends.trx.same_opening ∙ was.exact ∙ ap (λ (w : Work). length (begin_names w.lines)) (sym work);
             begun = begun_one entries (entry_of is.answer trace) was.begun (begun_answered is.answer trace);
           };
-      adds = inl (record { session = s; line = line; next = next; answer = is.answer; of_session = is.session; index = is.index; waits = is.waits; entry = entry_of is.answer trace; has = refl; one = refl });
+      adds = inl (record { session = s; line = line; next = next; answer = is.answer; of_session = is.session; index = is.index; waits = inl is.waits; entry = entry_of is.answer trace; has = refl; one = refl });
       later = (left, tt);
     }
 

@@ -1,15 +1,13 @@
 -- What putting back the rows of a session's transaction asks of a primary that stands.
-use Rattle.std.proofs.Common.{◌≡◌, ◌≢◌, ℕ, zero, suc, ◌+◌, ◌≤◌, ◌⊎◌, List, [], ◌∷◌, length, drop, slice_get, sum_by, Option, None, Some, IfSome, refl, sym, ap, subst, ◌∙◌, inl, inr, ⊎_elim, arith}
+use Rattle.std.proofs.Common.{◌≡◌, ℕ, zero, suc, ◌+◌, ◌≤◌, List, [], ◌∷◌, length, drop, slice_get, sum_by, Option, Some, IfSome, refl, ap, subst, ⊎_elim, arith}
 use Rattle.std.proofs.lemmas.List.Sums.{sum_by-cons}
 use Rattle.mp_machine.specs.View.{part_in}
-use Rattle.mp_cells.specs.declared.rows.Row.{Row}
 use Rattle.mp_core_trx.specs.declared.part.Begun.{Begun}
 use Rattle.mp_core_trx.specs.declared.slot.SlotTag.TheVariants.{Active}
 use Rattle.mp_core_trx.specs.Parts.{HasBegun, Shows}
 use Rattle.mp_core_pages.specs.declared.opening.TheConstants.{MOST_MTRS}
 use Rattle.mp_core.specs.declared.part.CorePart.{CorePart}
 use Rattle.mp_book.specs.declared.session.Session.{Session}
-use Rattle.mp_book.specs.Stages.{trx_of_stage}
 use Rattle.mp_outside.specs.declared.disks.Disk.{Ghosts}
 use Rattle.mp_shared.specs.Nodes.{Run, NodeView}
 use Rattle.mp_buffer_fusion.proofs.Visiting.{one_part}
@@ -33,7 +31,7 @@ sum_one f (z ∷ zs) (suc i) x e = let rest = sum_one f zs i x e in let sum = su
 
 module _ {D : Type 0} (g : Ghosts D) (run : Run) (pr : PrimaryView D) (n : NodeView) (stands : StandsWith g run pr n) (up : pr.down ≡ 0) where
   pub media_up : MediaAgree g pr.work 0 pr.media pr.number n
-  media_up q has = subst (λ (down : ℕ). HoldsPartOf g pr.work down pr.media q) up (stands.agrees.1 q has).media
+  media_up q has = subst (λ (down : ℕ). HoldsPartOf g pr.work down pr.number pr.media q) up (stands.agrees.1 q has).media
 
   pub media_somehow : MediaAgreeSomehow g pr.media pr.number n
   media_somehow = (pr.work, media_up)

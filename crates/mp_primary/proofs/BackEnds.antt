@@ -1,5 +1,5 @@
 -- The ends of a rollback, as the functions see the primary inside.
-use Rattle.std.proofs.Common.{◌≡◌, ◌≢◌, ℕ, ◌+◌, ◌<◌, ◌≤◌, ◌⊎◌, false, true, List, [], length, slice_get, slice_set, Option, None, Some, IfSome, refl, sym, ap, subst, ◌∙◌, inl, inr, ⊎_elim, arith}
+use Rattle.std.proofs.Common.{◌≡◌, ℕ, ◌<◌, false, List, slice_get, slice_set, Option, None, Some, IfSome, sym, ap, subst, ◌∙◌, inl, arith}
 use Rattle.std.proofs.lemmas.List.{set-set}
 use Rattle.std.proofs.lemmas.Option.{slice_get_within}
 use Rattle.mp_model.specs.Listed.{Listed}
@@ -9,15 +9,12 @@ use Rattle.mp_model.specs.declared.replies.WriteVerb.{WriteVerb}
 use Rattle.mp_model.specs.declared.waiting.Turn.TheVariants as turns
 use Rattle.mp_script.specs.declared.statements.Line.{Line}
 use Rattle.mp_script.specs.declared.statements.SessionOn.{SessionOn}
-use Rattle.mp_script.specs.Right.{WritesKey}
-use Rattle.mp_script.specs.Transactions.{Target, target_of}
+use Rattle.mp_script.specs.Transactions.{Target}
 use Rattle.std.specs.Prelude.{MatchOption}
 use Rattle.mp_core_trx.specs.declared.event.TrxEvent.TheVariants.{StoreEnd}
 use Rattle.mp_core_trx.specs.declared.part.Begun.{Begun}
 use Rattle.mp_core_trx.specs.Events.{with_end}
 use Rattle.mp_core.specs.declared.event.CoreEvent.TheVariants.{Trx}
-use Rattle.mp_core.specs.declared.part.CorePart.{CorePart}
-use Rattle.mp_core.specs.CoreExtends.{CoreExtends}
 use Rattle.mp_book.specs.declared.book.Book.{Book}
 use Rattle.mp_book.specs.declared.session.Session.{Session}
 use Rattle.mp_book.specs.declared.stage.Stage.{Stage}
@@ -33,7 +30,8 @@ use Rattle.mp_shared.specs.Nodes.{Run, NodeView, MayTake, Reached}
 use Rattle.mp_trx_fusion.specs.Calls.{with_trx}
 use Rattle.mp_buffer_fusion.proofs.Kept.{set_here}
 use Rattle.mp_primary.specs.Primaries.{PrimaryView, StandsWith}
-use Rattle.mp_primary.specs.Turns.{IsSessionOf, IsInTurns, MayTakeTurn, TakesTurn, ComesTo, has_nothing_left, no_task_in, IsTakenBack}
+use Rattle.mp_primary.specs.Turns.{IsSessionOf, IsInTurns, MayTakeTurn, ComesTo, has_nothing_left, no_task_in, IsTakenBack}
+use Rattle.mp_primary.specs.Tries.{TriesTurn}
 use Rattle.mp_primary.specs.GoingOn.{GoesBackOf, CountsBack, IsAllBack, MayReplyBack, IsReplyBack, ForgetsWaits, ClosesSession}
 use Rattle.mp_primary.proofs.FreedSlots.{Freeing, may_free, freeing, freed_stands, freed_agrees}
 use Rattle.mp_primary.proofs.BackTurns.{none_down, stood_at, may_reply, may_answer, answered_back, unprinted_turn}
@@ -154,18 +152,18 @@ module _ {D : Type 0} (g : Ghosts D) (run : Run) (inside old : PrimaryView D) (v
       -- the answer
       pub answered_inside : (line : Line) → IsNext old.book number s line → HasRoom old.book number → (reply : Reply) → IsReplyBack s.stage line reply → (book : Book)
           → IsAnswered inside.book book number s line reply (stage_after s.stage line.stmt reply) s.formers.items s.restored → IsBook inside.work.lines inside.work.sessions inside.number book
-          → TakesTurn g run old (record inside { book = book }) n after (Some number) turns.Answered
+          → TriesTurn g run old (record inside { book = book }) n after (Some number) turns.Answered
       answered_inside line next room reply replies book answered books =
           let comes : ComesTo g run old n number s line = record { stands = stands; next = next; inside = reply_in s.stage line reply replies; room = room } in
-          subst (λ (v : PrimaryView D). TakesTurn g run v (record inside { book = book }) n after (Some number) turns.Answered) view
+          subst (λ (v : PrimaryView D). TriesTurn g run v (record inside { book = book }) n after (Some number) turns.Answered) view
           (answered_back g run inside n after number s line (subst (λ (v : PrimaryView D). ComesTo g run v n number s line) (sym view) comes) trx up_in freed reply replies book answered books)
 
       -- or none
       pub unprinted_inside : next_line s ≡ None → has_nothing_left old (Some number) ≡ false → (new : PrimaryView D) → new ≡ record old { book = new.book } → ClosesSession old.book new.book number s
-          → IsBook old.work.lines old.work.sessions old.number new.book → TakesTurn g run old new n after (Some number) turns.Answered
+          → IsBook old.work.lines old.work.sessions old.number new.book → TriesTurn g run old new n after (Some number) turns.Answered
       unprinted_inside none busy new rest closed is_book =
-          subst (λ (v : PrimaryView D). TakesTurn g run old v n after (Some number) turns.Answered) (sym rest)
-          (subst (λ (v : PrimaryView D). TakesTurn g run v (record v { book = new.book }) n after (Some number) turns.Answered) view
+          subst (λ (v : PrimaryView D). TriesTurn g run old v n after (Some number) turns.Answered) (sym rest)
+          (subst (λ (v : PrimaryView D). TriesTurn g run v (record v { book = new.book }) n after (Some number) turns.Answered) view
           (unprinted_turn g run inside n after number s found_in none up_in (subst (λ (v : PrimaryView D). has_nothing_left v (Some number) ≡ false) (sym view) busy) new.book closed_in
           (freed_stands g run inside n after number s trx stands_in up_in freed closed_in.after over (inl closed_in.waits) new.book answers closed_in.sets.sessions book_in)
           freed.goes

@@ -1,12 +1,12 @@
 -- A turn that ends a transaction of which all is put back: with an answer, or unprinted.
-use Rattle.std.proofs.Common.{◌≡◌, ◌≢◌, ℕ, ◌+◌, ◌≤◌, ◌⊎◌, Bool, true, false, List, [], ◌∷◌, ◌++◌, length, slice_get, slice_set, Option, None, Some, is_some, IfSome, refl, sym, ap, subst, ◌∙◌, inl, inr, ⊎_elim, arith, length-append}
+use Rattle.std.proofs.Common.{◌≡◌, ◌≢◌, ℕ, true, false, List, [], ◌∷◌, ◌++◌, length, slice_get, slice_set, Option, None, Some, is_some, IfSome, refl, sym, ap, subst, ◌∙◌, inl, inr, arith, length-append}
 use Rattle.std.proofs.lemmas.List.{append-nil}
 use Rattle.std.proofs.lemmas.Option.{slice_get_within}
 use Rattle.mp_machine.specs.View.{part_in}
 use Rattle.mp_model.specs.Listed.{Listed}
 use Rattle.mp_model.specs.declared.replies.Answer.{Answer}
 use Rattle.mp_model.specs.declared.replies.Reply.{Reply}
-use Rattle.mp_model.specs.declared.replies.Reply.TheVariants.{Began, RolledBack, Conflict, Held, Full}
+use Rattle.mp_model.specs.declared.replies.Reply.TheVariants.{Began, RolledBack}
 use Rattle.mp_model.specs.declared.replies.WriteVerb.{WriteVerb}
 use Rattle.mp_model.specs.declared.waiting.Turn.TheVariants as turns
 use Rattle.mp_script.specs.declared.statements.Line.{Line}
@@ -25,15 +25,14 @@ use Rattle.mp_book.specs.declared.stage.Refusal.{Refusal}
 use Rattle.mp_book.specs.declared.stage.Refusal.TheVariants as refusals
 use Rattle.mp_book.specs.declared.stage.Stage.{Stage}
 use Rattle.mp_book.specs.declared.stage.Stage.TheVariants.{Closed, Open, Refused, Leaving, Skipping, Outside}
-use Rattle.mp_book.specs.Stages.{next_line, trx_of_stage, task_by, with_former, HaveOneRowEach}
+use Rattle.mp_book.specs.Stages.{next_line, trx_of_stage, task_by, HaveOneRowEach}
 use Rattle.mp_book.specs.Answered.{execution_above, NoneShowsDown}
 use Rattle.mp_book.specs.Through.{is_no_task}
-use Rattle.mp_book.specs.Books.{IsBook, IsNext, IsAnswered, IsRefusalReply, MayAnswer, SetsSession, StageStands, stage_after, IsGoingBack}
+use Rattle.mp_book.specs.Books.{IsBook, IsNext, IsAnswered, IsRefusalReply, MayAnswer, StageStands, stage_after}
 use Rattle.mp_outside.specs.declared.disks.Disk.{Ghosts}
 use Rattle.mp_shared.specs.Nodes.{Run, NodeView}
 use Rattle.mp_shared.proofs.Holding.{held_part}
 use Rattle.mp_buffer_fusion.proofs.Kept.{set_here, set_else}
-use Rattle.mp_supports.specs.Work.{Work}
 use Rattle.mp_supports.specs.Supports.{no_trace, SupportsReply, SupportsWaits}
 use Rattle.mp_supports.specs.Kept.{Entry, MayBeKept}
 use Rattle.mp_supports.specs.Agreement.{RefusalSupported, Opens, Bounds}
@@ -42,7 +41,8 @@ use Rattle.mp_supports.proofs.SupportsMore.{reply_more, waits_more}
 use Rattle.mp_desk.specs.Desks.{Moves}
 use Rattle.mp_desk.specs.Making.{HoldsPartOf}
 use Rattle.mp_primary.specs.Primaries.{PrimaryView, PrimaryAgreesIn, PrimaryAgrees, StandsWith}
-use Rattle.mp_primary.specs.Turns.{IsSessionOf, Adds, GoesOnBy, TakesTurn, ComesTo, has_nothing_left, no_task_in, TellsDown, IsTakenBack}
+use Rattle.mp_primary.specs.Turns.{IsSessionOf, Adds, GoesOnBy, ComesTo, has_nothing_left, no_task_in, TellsDown, IsTakenBack}
+use Rattle.mp_primary.specs.Tries.{TriesTurn}
 use Rattle.mp_primary.specs.GoingOn.{GoesBackOf, MayReplyBack, refused_as, IsReplyBack, ClosesSession}
 use Rattle.mp_primary.proofs.OpenSessions.{one_of}
 use Rattle.mp_primary.proofs.AnsweredTurns.{calm, entry_of, AnswersWell, goes_on_answered, line_found}
@@ -225,7 +225,7 @@ module _ {D : Type 0} (g : Ghosts D) (run : Run) (pr : PrimaryView D) (n after :
         sessions = opens.only;
         waits = opens.waits;
         mirrors = f.mirrors was.mirrors;
-        media = f.media (λ x has. subst (HoldsPartOf g pr.work pr.down pr.media) (one_of (part_in n.parts pr.number) x f.q has f.has) was.media);
+        media = f.media (λ x has. subst (HoldsPartOf g pr.work pr.down pr.number pr.media) (one_of (part_in n.parts pr.number) x f.q has f.has) was.media);
         bounds = subst (λ (l : List Session). Bounds pr.work f.r book.answers.items l) (sym is.sessions)
             (subst (λ (l : List Answer). Bounds pr.work f.r l (slice_set pr.book.sessions.items number is.after)) (sym is.answers) (f.bounds is.after over (is.answer ∷ []) was.bounds));
       })
@@ -236,10 +236,10 @@ module _ {D : Type 0} (g : Ghosts D) (run : Run) (pr : PrimaryView D) (n after :
   its_reply : (a : Answer) → Adds pr new a → reply ≡ a.reply
   its_reply a more = sym is.reply_is ∙ ap (λ (x : Answer). x.reply) (one_answer pr.book.answers.items is.answer a (sym is.answers ∙ more))
 
-  pub answered_back : TakesTurn g run pr new n after (Some number) turns.Answered
+  pub answered_back : TriesTurn g run pr new n after (Some number) turns.Answered
   answered_back = record {
     stands = record {
-      primary = record { book = books; names = comes.stands.primary.names; own = comes.stands.primary.own; up = comes.stands.primary.up; down = comes.stands.primary.down };
+      primary = record { book = books; names = comes.stands.primary.names; places = comes.stands.primary.places; own = comes.stands.primary.own; up = comes.stands.primary.up };
       desk = f.desk;
       agrees = let more = goes comes.stands.agrees.0 comes.stands.agrees.1 in (comes.stands.agrees.0 ++ more.more, more.agrees);
     };
@@ -250,6 +250,8 @@ module _ {D : Type 0} (g : Ghosts D) (run : Run) (pr : PrimaryView D) (n after :
     others = λ other ne. ap (λ (l : List Session). slice_get l other) is.sessions ∙ set_else pr.book.sessions.items number other is.after (λ same. ne (ap (λ (k : ℕ). Some k) (sym same)));
     named = λ x there. ap (λ (v : Session). v.waits.items) (one_of (slice_get book.sessions.items number) is.after x (ap (λ (l : List Session). slice_get l number) is.sessions ∙ set_here pr.book.sessions.items number is.after (slice_get_within pr.book.sessions.items number s found)) there) ∙ is.goes.waits;
     cause = tt;
+    up = tt;
+    answers = tt;
     down = inl refl;
     faults = omega arith;
     tells = refl;
@@ -280,7 +282,7 @@ module _ {D : Type 0} (g : Ghosts D) (run : Run) (pr : PrimaryView D) (n after :
       let same : length (pr.book.answers.items ++ a ∷ []) ≡ length pr.book.answers.items = ap (λ (l : List Answer). length l) (sym more ∙ ap (λ (l : Listed Answer). l.items) closes.sets.answers) in
       omega (arith, longer, same)
 
-  pub unprinted_turn : TakesTurn g run pr (record pr { book = book }) n after (Some number) turns.Answered
+  pub unprinted_turn : TriesTurn g run pr (record pr { book = book }) n after (Some number) turns.Answered
   unprinted_turn = record {
     stands = stands;
     number = refl;
@@ -295,6 +297,8 @@ module _ {D : Type 0} (g : Ghosts D) (run : Run) (pr : PrimaryView D) (n after :
     others = λ other ne. ap (λ (l : List Session). slice_get l other) closes.sets.sessions ∙ set_else pr.book.sessions.items number other closes.after (λ same. ne (ap (λ (k : ℕ). Some k) (sym same)));
     named = λ x at. ap (λ (v : Session). v.waits.items) (is_after x at) ∙ closes.waits;
     cause = tt;
+    up = tt;
+    answers = tt;
     down = inl refl;
     faults = omega arith;
     tells = refl;

@@ -55,7 +55,8 @@ use Rattle.mp_desk.specs.Making.{HoldsPartOf}
 use Rattle.mp_desk.proofs.ReachedFacts.{known_world}
 use Rattle.mp_desk.proofs.TrxStepped.{trx_changed, trx_step, trx_there, moves_trx, trx_at_desk, trx_media}
 use Rattle.mp_primary.specs.Primaries.{PrimaryView, PrimaryAgreesIn, PrimaryAgrees}
-use Rattle.mp_primary.specs.Turns.{Adds, no_task_in, has_nothing_left, ComesTo, GoesOnBy, TakesTurn, TellsDown}
+use Rattle.mp_primary.specs.Turns.{Adds, no_task_in, has_nothing_left, ComesTo, GoesOnBy, TellsDown}
+use Rattle.mp_primary.specs.Tries.{TriesTurn}
 use Rattle.mp_primary.proofs.OpenSessions.{one_of}
 use Rattle.mp_primary.proofs.QuietTurns.{quiet, same_waits}
 use Rattle.mp_primary.proofs.StillInTurns.{stage_in, open_in, set_may, comes_may}
@@ -122,8 +123,8 @@ module _ {D : Type 0} (g : Ghosts D) (run : Run) (old : PrimaryView D) (before :
   busy : has_nothing_left old (Some number) ≡ false
   busy = ap no_task_in comes.next.found ∙ ap (λ (o : Option Line). is_no_task (task_by o s.stage)) comes.next.next
 
-  pub slot_turn : (wait : NotYet) → wait ≡ no_slot_for old.number → next_slot before old.number ≡ None → TakesTurn g run old old before before (Some number) (turns.Waiting (Word wait))
-  slot_turn wait is none = quiet g run old before comes.stands (Some number) (comes_may g run old before number s line comes) (turns.Waiting (Word wait)) refl (same_waits g old number) (inr (inl (is, none)))
+  pub slot_turn : (wait : NotYet) → wait ≡ no_slot_for old.number → next_slot before old.number ≡ None → TriesTurn g run old old before before (Some number) (turns.Waiting (Word wait))
+  slot_turn wait is none = quiet g run old before comes.stands (Some number) (comes_may g run old before number s line comes) (turns.Waiting (Word wait)) refl (same_waits g old number) (inr (inl (is, none))) up
       ((λ e. absurd (waiting_not_done wait e)), (λ still nothing. absurd (false_not_true (sym busy ∙ nothing))))
       ((λ by e. absurd (waiting_not_stopped wait by e)), (λ down. absurd (down up)))
 
@@ -247,7 +248,7 @@ module _ {D : Type 0} (g : Ghosts D) (run : Run) (old : PrimaryView D) (before :
           waits = opens_now.waits;
           mirrors = mirrors_kept has.0 now step.extends old.down old.desk.llsn old.desk.undo refl refl agreed.mirrors;
           media = trx_media old.number before after (with_begin b) 2 becomes has.0 has.1 more g old.work old.down old.media comes.stands.desk.part
-              (λ q at. subst (HoldsPartOf g old.work old.down old.media) (sym (one_of (part_in before.parts old.number) has.0 q has.1 at)) agreed.media) now has_now;
+              (λ q at. subst (HoldsPartOf g old.work old.down old.number old.media) (sym (one_of (part_in before.parts old.number) has.0 q has.1 at)) agreed.media) now has_now;
           bounds = subst (λ (l : List Session). Bounds old.work now book.answers.items l) (sym is.sessions)
               (subst (λ (l : List Answer). Bounds old.work now l (slice_set old.book.sessions.items number is.after)) (sym is.answers)
               (bounds_answered old.work has.0 now step.extends old.book.answers.items old.book.sessions.items number s is.after found agreed.bounds (is.answer ∷ []) refl (let same : length now.trx.drew ≡ length has.0.trx.drew = refl in omega (arith, same)) (let none = rows_none in omega (arith, none))));
@@ -261,10 +262,10 @@ module _ {D : Type 0} (g : Ghosts D) (run : Run) (old : PrimaryView D) (before :
       its_reply : (a : Answer) → Adds old new a → Began b.view ≡ a.reply
       its_reply a added = sym is.reply_is ∙ ap (λ (x : Answer). x.reply) (one_answer old.book.answers.items is.answer a (sym is.answers ∙ added))
 
-      pub began_turn : Knows before old.number b.view → (HoldsAll before → b.view ≡ tso_of before) → TakesTurn g run old new before after (Some number) turns.Answered
+      pub began_turn : Knows before old.number b.view → (HoldsAll before → b.view ≡ tso_of before) → TriesTurn g run old new before after (Some number) turns.Answered
       began_turn knows exact = record {
         stands = record {
-          primary = record { book = books; names = comes.stands.primary.names; own = comes.stands.primary.own; up = comes.stands.primary.up; down = comes.stands.primary.down };
+          primary = record { book = books; names = comes.stands.primary.names; places = comes.stands.primary.places; own = comes.stands.primary.own; up = comes.stands.primary.up };
           desk = trx_at_desk old.number before after (with_begin b) 2 becomes has.0 has.1 more run old.desk comes.stands.desk reached;
           agrees = let next = goes comes.stands.agrees.0 comes.stands.agrees.1 in (comes.stands.agrees.0 ++ next.more, next.agrees);
         };
@@ -275,6 +276,8 @@ module _ {D : Type 0} (g : Ghosts D) (run : Run) (old : PrimaryView D) (before :
         others = λ other ne. ap (λ (l : List Session). slice_get l other) is.sessions ∙ set_else old.book.sessions.items number other is.after (λ same. ne (ap (λ (k : ℕ). Some k) (sym same)));
         named = λ x at. ap (λ (v : Session). v.waits.items) (one_of (slice_get book.sessions.items number) is.after x (ap (λ (l : List Session). slice_get l number) is.sessions ∙ set_here old.book.sessions.items number is.after (within old.book.sessions.items number s found)) at) ∙ is.goes.waits;
         cause = tt;
+        up = tt;
+        answers = tt;
         down = inl refl;
         faults = omega arith;
         tells = refl;
@@ -304,9 +307,9 @@ module _ {D : Type 0} (g : Ghosts D) (inside old : PrimaryView D) (view : inside
   pub inside_next : (trx : Begun) → (x : Session) × (l : Line) × IsNext inside.book number x l × MayAnswer x l (Began trx.view) (Open trx) [] 0
   inside_next trx = (s, line, inside_comes.next, (trx, closed, is_begin inside.work inside.number number inside.book s line inside_comes.stands.primary.book inside_comes.next (old_calm g run inside before number s line inside_comes inside_up closed) closed, refl, refl, refl, refl))
 
-  pub inside_slot_turn : (after : NodeView) → after ≡ before → (wait : NotYet) → (next_slot before inside.number ≡ None) × (wait ≡ no_slot_for inside.number) → TakesTurn g run old old before after (Some number) (turns.Waiting (Word wait))
+  pub inside_slot_turn : (after : NodeView) → after ≡ before → (wait : NotYet) → (next_slot before inside.number ≡ None) × (wait ≡ no_slot_for inside.number) → TriesTurn g run old old before after (Some number) (turns.Waiting (Word wait))
   inside_slot_turn after stays wait is =
-      subst (λ (n : NodeView). TakesTurn g run old old before n (Some number) (turns.Waiting (Word wait))) (sym stays)
+      subst (λ (n : NodeView). TriesTurn g run old old before n (Some number) (turns.Waiting (Word wait))) (sym stays)
       (slot_turn g run old before number s line comes up closed wait (is.1 ∙ ap (λ (v : PrimaryView D). no_slot_for v.number) view) (ap (λ (v : PrimaryView D). next_slot before v.number) (sym view) ∙ is.0))
 
   module _ (place : ℕ) (there : slice_get inside.names place ≡ Some (name_by number line.index)) where
@@ -319,8 +322,8 @@ module _ {D : Type 0} (g : Ghosts D) (inside old : PrimaryView D) (view : inside
     pub inside_began_turn : (after : NodeView) (b : Begun) (book : Book) → b.id.version ≡ inside.work.base.version + place + 1 → after ≡ with_trx before inside.number (with_begin b) 2 → CanUse before inside.number b.id.slot → Reached after
         → ((x : Session) (l : Line) → IsNext inside.book number x l → IsAnswered inside.book book number x l (Began b.view) (Open b) [] 0)
         → ((lines : List Line) (sessions : List SessionOn) (primary : ℕ) → IsBook lines sessions primary inside.book → NoneShowsDown inside.book.answers.items → IsBook lines sessions primary book)
-        → Knows before inside.number b.view → (HoldsAll before → b.view ≡ tso_of before) → TakesTurn g run old (record inside { book = book }) before after (Some number) turns.Answered
+        → Knows before inside.number b.view → (HoldsAll before → b.view ≡ tso_of before) → TriesTurn g run old (record inside { book = book }) before after (Some number) turns.Answered
     inside_began_turn after b book version becomes usable reached is books knows exact =
-        subst (λ (v : PrimaryView D). TakesTurn g run v (record inside { book = book }) before after (Some number) turns.Answered) view
+        subst (λ (v : PrimaryView D). TriesTurn g run v (record inside { book = book }) before after (Some number) turns.Answered) view
         (began_turn g run inside before number s line inside_comes inside_up closed place there after b book version becomes usable reached (is s line inside_comes.next)
         (books inside.work.lines inside.work.sessions inside.number inside_comes.stands.primary.book (old_calm g run inside before number s line inside_comes inside_up closed)) knows exact)

@@ -105,7 +105,7 @@ module _ {D : Type 0} (g : Ghosts D) (run : Run) (old : PrimaryView D) (before :
 
   -- what the media hold before
   pub media_before : MediaAgree g old.work 0 old.media old.number before
-  media_before r there = subst (λ (d : ℕ). HoldsPartOf g old.work d old.media r) up (stands.agrees.1 r there).media
+  media_before r there = subst (λ (d : ℕ). HoldsPartOf g old.work d old.number old.media r) up (stands.agrees.1 r there).media
 
   idle_before : (page : ℕ) → held_at q.pages.locks page ≡ No
   idle_before page = ⊎_elim (λ none. none) (λ down. absurd (down up)) ((stands.agrees.1 q has).mirrors.idle page)

@@ -181,7 +181,7 @@ pub record HasSidesThen {D : Type 0} (g : Ghosts D) (old now : PrimaryView D) (d
   pub sessions_are : AreSessions r sessions
   pub waits : AreWaitsSupported old.work r sessions
   pub mirrors : Mirrors r down now.desk.llsn now.desk.undo
-  pub media : HoldsPartOf g old.work down now.media r
+  pub media : HoldsPartOf g old.work down old.number now.media r
   pub bounds : (more : List Answer) → Bounds old.work r (old.book.answers.items ++ more) sessions
 
 module _ {D : Type 0} (g : Ghosts D) (run : Run) (old now : PrimaryView D) (before after : NodeView) (number : ℕ) (trx : Begun) (end : CommitEnd) (stands : StandsWith g run old before) (up : old.down ≡ 0)
@@ -191,7 +191,7 @@ module _ {D : Type 0} (g : Ghosts D) (run : Run) (old now : PrimaryView D) (befo
   q = open_part g run old before stands up
 
   abbrev pub part_then : (r : CorePart) × (part_in after.parts old.number ≡ Some r) × EndsInPart trx end q r
-  part_then = e.ended.mine q (open_has g run old before stands up)
+  part_then = let now = e.ended.mine q (open_has g run old before stands up) in (now.0, now.1, now.2)
 
   abbrev r : CorePart
   r = part_then.0
@@ -254,7 +254,7 @@ module _ {D : Type 0} (g : Ghosts D) (run : Run) (old now : PrimaryView D) (befo
         idle = λ page. ⊎_elim (λ is. inl ((e.ready is).idle r part_then.1 page)) (λ some. inr some) (up_or_down trx q r old.number not_nobody end);
       }
 
-  pub media_then : HoldsPartOf g old.work down now.media r
+  pub media_then : HoldsPartOf g old.work down old.number now.media r
   media_then = e.media r part_then.1
 
   bounds_then : Bounds old.work q old.book.answers.items old.book.sessions.items → (more : List Answer) → Bounds old.work r (old.book.answers.items ++ more) sessions

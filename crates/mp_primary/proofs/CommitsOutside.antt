@@ -37,7 +37,8 @@ use Rattle.mp_primary.specs.declared.outside.CommitEnd.{CommitEnd}
 use Rattle.mp_primary.specs.declared.outside.CommitEnd.TheVariants as ends
 use Rattle.mp_primary.specs.Primaries.{PrimaryView, IsPrimary, AreSessions, AreWaitsSupported, PrimaryAgreesIn, PrimaryAgrees, StandsWith}
 use Rattle.mp_primary.specs.Turns.{IsSessionOf}
-use Rattle.mp_primary.specs.OutsideCalls.{HasOpen, StandsOutside, CallsOutside, IsOnEachImage, EndsAs}
+use Rattle.mp_primary.specs.OutsideCalls.{HasOpen, StandsOutside, IsOnEachImage, EndsAs}
+use Rattle.mp_primary.specs.OutsideTries.{TriesOutside}
 use Rattle.mp_primary.specs.Commits.{EndsInPart, down_by_end, left_at_end, EndsByCommit}
 use Rattle.mp_primary.proofs.BegunByAnswers.{begun_one}
 use Rattle.mp_primary.proofs.OpenSessions.{one_of}
@@ -59,7 +60,7 @@ no_answer_more (e ∷ entries) trace = go e.answer refl (no_answer_more entries 
 
 -- ---- what is durable is on each image
 
-module _ {D : Type 0} (g : Ghosts D) (now : PrimaryView D) (q r : CorePart) (trx : Begun) (cts : ℕ) (h : IsPublished trx cts q r) (holds : HoldsPartOf g now.work 0 now.media r) where
+module _ {D : Type 0} (g : Ghosts D) (now : PrimaryView D) (q r : CorePart) (trx : Begun) (cts : ℕ) (h : IsPublished trx cts q r) (holds : HoldsPartOf g now.work 0 now.number now.media r) where
   abbrev m : Mtr
   m = h.commits.mtr.mtr
 
@@ -151,18 +152,12 @@ module _ {D : Type 0} (g : Ghosts D) (run : Run) (old now : PrimaryView D) (book
   primary = record {
     book = books;
     names = stands.primary.names;
+    places = stands.primary.places;
     own = e.own;
     up = λ still. let ready = e.ready still in (ready.log, ready.empty, ready.forced);
-    down = goes_down end;
   }
-    where
-      goes_down : (end : CommitEnd) → (down_by_end old.number end ≡ 0) ⊎ ((down_by_end old.number end ≡ old.number) × (old.number ≢ 0))
-      goes_down ends.None = inl refl
-      goes_down (ends.At cts) = inl refl
-      goes_down (ends.Unknown cts) = inr (refl, some)
-      goes_down ends.Stopped = inr (refl, some)
 
-  pub calls_outside : CallsOutside g run old new before after number
+  pub calls_outside : TriesOutside g run old new before after number
   calls_outside = record {
     stands = record { primary = primary; desk = e.desk; agrees = (stands.agrees.0 ++ silent_entry trace ∷ [], goes stands.agrees.0 stands.agrees.1) };
     number = refl;
@@ -171,9 +166,17 @@ module _ {D : Type 0} (g : Ghosts D) (run : Run) (old now : PrimaryView D) (book
     went = moves_as old.number (EndsInPart trx end) CoreExtends (λ x y h. went_at_end trx x y end h) before after e.ended;
     goes_on = λ entries agrees. (silent_entry trace ∷ [], (refl, tt), goes entries agrees);
     others = λ other ne. ap (λ (l : List Session). slice_get l other) sets.sessions ∙ set_else old.book.sessions.items number other next (λ same. ne (sym same));
+    down = fell end e.rose;
     faults = e.faults;
     tells = e.tells;
   }
+    where
+      fell : (to : CommitEnd) → (down_by_end old.number to ≡ 0) ⊎ Rose (g.faults old.media.log.disk) (g.faults now.media.log.disk)
+          → (down_by_end old.number to ≡ 0) ⊎ ((down_by_end old.number to ≡ old.number) × Rose (g.faults old.media.log.disk) (g.faults now.media.log.disk))
+      fell ends.None rose = inl refl
+      fell (ends.At cts) rose = inl refl
+      fell (ends.Unknown cts) rose = ⊎_elim (λ zero. absurd (some zero)) (λ more. inr (refl, more)) rose
+      fell ends.Stopped rose = ⊎_elim (λ zero. absurd (some zero)) (λ more. inr (refl, more)) rose
 
   here : slice_get book.sessions.items number ≡ Some next
   here = ap (λ (l : List Session). slice_get l number) sets.sessions ∙ set_here old.book.sessions.items number next (slice_get_within old.book.sessions.items number s found)
@@ -181,7 +184,7 @@ module _ {D : Type 0} (g : Ghosts D) (run : Run) (old now : PrimaryView D) (book
   pub ends_as : EndsAs g old new number trx end
   ends_as = go end refl then.2 (media_then g run old now before after number trx end stands up e s found stage next refl waits rows) e.rose (next, here, refl)
     where
-      go : (to : CommitEnd) → end ≡ to → EndsInPart trx to q r → HoldsPartOf g old.work (down_by_end old.number to) now.media r
+      go : (to : CommitEnd) → end ≡ to → EndsInPart trx to q r → HoldsPartOf g old.work (down_by_end old.number to) old.number now.media r
           → (down_by_end old.number to ≡ 0) ⊎ Rose (g.faults old.media.log.disk) (g.faults now.media.log.disk) → StandsOutside new number (left_at_end trx to) → EndsAs g old new number trx to
       go ends.None is h media rose outside = (ap (down_by_end old.number) is, outside)
       go (ends.At cts) is h media rose outside = (ap (down_by_end old.number) is, outside, on_each_image g new q r trx cts h media)
@@ -208,9 +211,9 @@ module _ {D : Type 0} (g : Ghosts D) (run : Run) (old now : PrimaryView D) (book
   book_old : IsBook old.work.lines old.work.sessions old.number book
   book_old = books old.work.lines old.work.sessions old.number (subst (IsBook old.work.lines old.work.sessions old.number) (sym old_book) stands.primary.book)
 
-  pub calls_outside_inside : CallsOutside g run old (record now { book = book }) before after number
+  pub calls_outside_inside : TriesOutside g run old (record now { book = book }) before after number
   calls_outside_inside =
-      subst (λ (v : PrimaryView D). CallsOutside g run old (record v { book = book }) before after number) (sym e.rest)
+      subst (λ (v : PrimaryView D). TriesOutside g run old (record v { book = book }) before after number) (sym e.rest)
       (calls_outside g run old now book before after number trx end stands up e s has.1 has.2 set_old book_old)
 
   -- the session has one open transaction

@@ -49,7 +49,8 @@ use Rattle.mp_desk.proofs.Moving.{moves_as}
 use Rattle.mp_primary.specs.declared.outside.CommitEnd.{CommitEnd}
 use Rattle.mp_primary.specs.declared.outside.CommitEnd.TheVariants as ends
 use Rattle.mp_primary.specs.Primaries.{PrimaryView, IsPrimary, AreSessions, AreWaitsSupported, PrimaryAgreesIn, PrimaryAgrees, StandsWith}
-use Rattle.mp_primary.specs.Turns.{Adds, GoesOnBy, TakesTurn, TellsDown, TriesAt, has_nothing_left, no_task_in, IsLeftAfter}
+use Rattle.mp_primary.specs.Turns.{Adds, GoesOnBy, TellsDown, TriesAt, has_nothing_left, no_task_in, IsLeftAfter}
+use Rattle.mp_primary.specs.Tries.{TriesTurn}
 use Rattle.mp_primary.specs.Commits.{EndsInPart, TellsIfWrote, down_by_end, stamp_at_end, reply_at_end, left_at_end, EndsByCommit}
 use Rattle.mp_primary.proofs.OpenSessions.{one_of}
 use Rattle.mp_primary.proofs.AnsweredTurns.{entry_of, AnswersWell, goes_on_answered, found_here, line_found}
@@ -269,21 +270,15 @@ module _ {D : Type 0} (g : Ghosts D) (run : Run) (old now : PrimaryView D) (book
   primary = record {
     book = books;
     names = stands.primary.names;
+    places = stands.primary.places;
     own = e.own;
     up = λ still. let ready = e.ready still in (ready.log, ready.empty, ready.forced);
-    down = goes_down end;
   }
-    where
-      goes_down : (end : CommitEnd) → (down_by_end old.number end ≡ 0) ⊎ ((down_by_end old.number end ≡ old.number) × (old.number ≢ 0))
-      goes_down ends.None = inl refl
-      goes_down (ends.At cts) = inl refl
-      goes_down (ends.Unknown cts) = inr (refl, some)
-      goes_down ends.Stopped = inr (refl, some)
 
   went_all : Moves CoreExtends old.number before after
   went_all = moves_as old.number (EndsInPart trx end) CoreExtends (λ x y h. went_at_end trx x y end h) before after e.ended
 
-  pub committed_turn : TakesTurn g run old new before after (Some number) turns.Answered
+  pub committed_turn : TriesTurn g run old new before after (Some number) turns.Answered
   committed_turn = record {
     stands = record {
       primary = primary;
@@ -297,6 +292,8 @@ module _ {D : Type 0} (g : Ghosts D) (run : Run) (old now : PrimaryView D) (book
     others = λ other ne. ap (λ (l : List Session). slice_get l other) is.sessions ∙ set_else old.book.sessions.items number other is.after (λ same. ne (ap (λ (k : ℕ). Some k) (sym same)));
     named = λ x there. ap (λ (v : Session). v.waits.items) (one_of (slice_get book.sessions.items number) is.after x here there) ∙ is.goes.waits;
     cause = tt;
+    up = tt;
+    answers = tt;
     down = by_down end e.rose;
     faults = e.faults;
     tells = e.tells;
@@ -352,7 +349,7 @@ module _ {D : Type 0} (g : Ghosts D) (run : Run) (old now : PrimaryView D) (book
 
   pub committed_inside : ((x : Session) (l : Line) → IsNext now.book number x l → IsAnswered now.book book number x l reply (stage_after x.stage l.stmt reply) (with_former x.formers.items None) x.restored)
       → ((lines : List Line) (sessions : List SessionOn) (primary : ℕ) → IsBook lines sessions primary now.book → (is_stopped reply ≡ true) ⊎ NoneShowsDown now.book.answers.items → IsBook lines sessions primary book)
-      → TakesTurn g run old (record now { book = book }) before after (Some number) turns.Answered
+      → TriesTurn g run old (record now { book = book }) before after (Some number) turns.Answered
   committed_inside answered books =
       let s = comes.session in
       let line = comes.line in
@@ -362,5 +359,5 @@ module _ {D : Type 0} (g : Ghosts D) (run : Run) (old now : PrimaryView D) (book
       let is = subst (λ (x : Reply). IsAnswered old.book book number s line x (stage_after s.stage line.stmt x) s.formers.items s.restored) reply_is by_old in
       let was : IsBook old.work.lines old.work.sessions old.number now.book = subst (IsBook old.work.lines old.work.sessions old.number) (sym old_book) comes.comes.stands.primary.book in
       let calm_now : NoneShowsDown now.book.answers.items = subst (λ (b : Book). NoneShowsDown b.answers.items) (sym old_book) (open_calm g run old before comes.comes.stands comes.up) in
-      subst (λ (v : PrimaryView D). TakesTurn g run old (record v { book = book }) before after (Some number) turns.Answered) (sym e.rest)
+      subst (λ (v : PrimaryView D). TriesTurn g run old (record v { book = book }) before after (Some number) turns.Answered) (sym e.rest)
       (committed_turn g run old now book before after number trx end comes e is (books old.work.lines old.work.sessions old.number was (inr calm_now)) above exact)

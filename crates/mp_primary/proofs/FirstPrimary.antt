@@ -1,10 +1,9 @@
 -- A primary that has answered nothing agrees with the part of its node before any step.
-use Rattle.std.proofs.Common.{◌≡◌, ◌≢◌, ℕ, zero, suc, ◌+◌, ◌<◌, ◌≤◌, Bool, true, false, List, [], ◌∷◌, ◌++◌, length, sum_by, slice_get, Option, None, Some, IfSome, refl, sym, ap, subst, ◌∙◌, inl, inr, arith}
+use Rattle.std.proofs.Common.{◌≡◌, ℕ, zero, suc, ◌+◌, ◌<◌, ◌≤◌, Bool, true, false, List, [], ◌∷◌, ◌++◌, length, sum_by, slice_get, Option, None, Some, IfSome, refl, sym, ap, subst, ◌∙◌, inl, arith}
 use Rattle.std.proofs.lemmas.List.Sums.{sum_by-cons}
 use Rattle.mp_machine.specs.Lists.{IsIn}
 use Rattle.mp_machine.specs.View.{part_in}
 use Rattle.mp_machine.proofs.Views.{part_in-whole}
-use Rattle.mp_model.specs.declared.replies.Answer.{Answer}
 use Rattle.mp_script.specs.declared.statements.Line.{Line}
 use Rattle.mp_script.specs.BeginNames.{begin_names}
 use Rattle.mp_cells.specs.declared.records.Mtr.{Mtr}
@@ -12,19 +11,20 @@ use Rattle.mp_core_trx.specs.declared.opening.Base.{Base}
 use Rattle.mp_core_trx.specs.declared.part.Begun.{Begun}
 use Rattle.mp_core_trx.specs.Events.{IsNode}
 use Rattle.mp_core.specs.declared.part.CorePart.{CorePart}
+use Rattle.mp_core.specs.Downs.{down_of}
 use Rattle.mp_core.specs.World.{core_start, core_part}
 use Rattle.mp_book.specs.declared.session.Session.{Session}
 use Rattle.mp_book.specs.declared.stage.Stage.{Stage}
-use Rattle.mp_book.specs.declared.stage.Stage.TheVariants.{Closed}
 use Rattle.mp_book.specs.Stages.{next_line, trx_of_stage}
-use Rattle.mp_book.specs.Books.{StartsAs, own_lines}
+use Rattle.mp_book.specs.Books.{StartsAs}
 use Rattle.mp_outside.specs.declared.disks.Disk.{Ghosts}
 use Rattle.mp_shared.specs.Nodes.{Run, first_node}
 use Rattle.mp_supports.specs.Work.{Work}
 use Rattle.mp_supports.specs.Supports.{SupportsWaits}
 use Rattle.mp_supports.specs.Agreement.{IsOpenAs, HasMadeUndo, RefusalSupported, rows_left, rows_left_by}
+use Rattle.mp_supports.proofs.KeptBatches.{kept_batches}
 use Rattle.mp_book.proofs.Items.{stands_there}
-use Rattle.mp_primary.specs.Primaries.{PrimaryView, IsPrimary, IsFirstLog, PrimaryAgrees, PrimaryAgreesIn}
+use Rattle.mp_primary.specs.Primaries.{PrimaryView, IsFirstLog, PrimaryAgrees, PrimaryAgreesIn}
 use Rattle.mp_primary.specs.Turns.{MayTakeTurn}
 use Rattle.mp_primary.proofs.SmallPrimaries.{closed_not_outside}
 use Rattle.mp_primary.proofs.OpenSessions.{one_of, waits_ended}
@@ -76,10 +76,11 @@ module _ {D : Type 0} (g : Ghosts D) (pr : PrimaryView D) (number_lines : ℕ �
     };
     media = record {
       base = base;
+      node = first.takes.node;
       on_disk = record {
         images = λ tells c image.
             let stands = first.stands tells in
-            record { batches = stands.0; text = stands.1.images c image; later = []; front = ap (λ (l : List Mtr). l ++ []) (sym stands.2); covers = tt };
+            record { batches = stands.0; text = stands.1.images c image; log = kept_batches stands.0 [] pr.media.log.tail (g.seen pr.media.log.disk) (g.image pr.media.log.disk) stands.1; later = []; front = ap (λ (l : List Mtr). l ++ []) (sym stands.2); covers = tt };
         live = λ live tells.
             let stands = first.stands tells in
             (stands.0, [], stands.1, ap (λ (l : List Mtr). l ++ []) (sym stands.2), tt);
@@ -102,6 +103,12 @@ module _ {D : Type 0} (g : Ghosts D) (pr : PrimaryView D) (number_lines : ℕ �
   pub first_agrees_in : PrimaryAgreesIn g pr [] (first_node run)
   first_agrees_in q has =
       subst (PrimaryAgrees g pr []) (one_of (part_in (first_node run).parts pr.number) q first_part has (part_in-whole (core_part (core_start run.opening)) (run.opening.trx.primaries + 1) pr.number (omega (arith, node.1)))) first_agrees
+
+-- its own word says that it is up
+pub first_own : (number : ℕ) (run : Run) → IsNode run.opening.trx number → (q : CorePart) → part_in (first_node run).parts number ≡ Some q → down_of q ≡ 0
+first_own number run node q has =
+    sym (ap down_of (one_of (part_in (first_node run).parts number) q (core_part (core_start run.opening) number) has
+    (part_in-whole (core_part (core_start run.opening)) (run.opening.trx.primaries + 1) number (omega (arith, node.1)))))
 
 -- the same, of a primary that was made for this work
 pub first_agrees_by : {D : Type 0} (g : Ghosts D) (pr : PrimaryView D) (work : Work) → pr.work ≡ work → (number_lines : ℕ → List Line) → ((k : ℕ) (s : Session) → slice_get pr.book.sessions.items k ≡ Some s → StartsAs k (number_lines k) s) → pr.book.answers.items ≡ [] → length work.lines ≤ 10000

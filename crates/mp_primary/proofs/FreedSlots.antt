@@ -1,22 +1,19 @@
 -- A transaction of which all is put back is freed: its session goes on without it.
-use Rattle.std.proofs.Common.{◌≡◌, ◌≢◌, ℕ, zero, suc, ◌+◌, ◌≤◌, ◌⊎◌, Bool, true, false, List, [], ◌∷◌, ◌++◌, length, drop, slice_get, slice_set, Option, None, Some, IfSome, refl, sym, ap, subst, ◌∙◌, inl, inr, ⊎_elim, arith}
+use Rattle.std.proofs.Common.{◌≡◌, ℕ, List, [], ◌∷◌, ◌++◌, length, drop, slice_set, Option, None, Some, IfSome, refl, sym, ap, subst, ◌∙◌, inl, ⊎_elim, arith}
 use Rattle.std.proofs.lemmas.List.{append-nil}
-use Rattle.std.proofs.lemmas.Option.{slice_get_within}
 use Rattle.mp_machine.specs.Lists.{IsIn}
 use Rattle.mp_machine.specs.Machine.{run, AllAllowed}
 use Rattle.mp_machine.specs.View.{part_in}
 use Rattle.mp_machine.proofs.Time.{forward}
-use Rattle.mp_model.specs.declared.ids.TrxId.{TrxId}
 use Rattle.mp_model.specs.declared.replies.Answer.{Answer}
-use Rattle.mp_script.specs.BeginNames.{begin_names}
 use Rattle.mp_cells.specs.declared.rows.Row.{Row}
 use Rattle.mp_cells.specs.Trees.{row_at}
-use Rattle.mp_core_trx.specs.declared.event.TrxEvent.TheVariants.{StorePrep, StoreEnd}
+use Rattle.mp_core_trx.specs.declared.event.TrxEvent.TheVariants.{StoreEnd}
 use Rattle.mp_core_trx.specs.declared.opening.TrxOpening.{TrxOpening}
 use Rattle.mp_core_trx.specs.declared.part.Begun.{Begun}
 use Rattle.mp_core_trx.specs.declared.slot.SlotTag.TheVariants.{Free, Active}
 use Rattle.mp_core_trx.specs.Events.{IsNode, ended, with_end}
-use Rattle.mp_core_trx.specs.Parts.{PartExtends, HasBegun, IsOpen, Shows}
+use Rattle.mp_core_trx.specs.Parts.{PartExtends, HasBegun, Shows}
 use Rattle.mp_core_trx.specs.World.{begun_in, slot_rows_in}
 use Rattle.mp_core.specs.declared.opening.CoreOpening.{CoreOpening}
 use Rattle.mp_core.specs.declared.part.CorePart.{CorePart}
@@ -120,7 +117,7 @@ pub record Freeing {D : Type 0} (g : Ghosts D) (run_of : Run) (pr : PrimaryView 
   pub goes : Moves CoreExtends pr.number n after
   pub desk : IsAtDesk run_of pr.desk pr.number after
   pub shows : Shows r.trx.rows trx.id Free
-  pub media : MediaAgree g pr.work pr.down pr.media pr.number n → HoldsPartOf g pr.work pr.down pr.media r
+  pub media : MediaAgree g pr.work pr.down pr.media pr.number n → HoldsPartOf g pr.work pr.down pr.number pr.media r
   pub mirrors : Mirrors q pr.down pr.desk.llsn pr.desk.undo → Mirrors r pr.down pr.desk.llsn pr.desk.undo
   pub opens : (t : Session) → trx_of_stage t.stage ≡ None → HasNoNewWait s t → Opens pr.work r 0 (slice_set pr.book.sessions.items number t)
   pub bounds : (t : Session) → trx_of_stage t.stage ≡ None → (more : List Answer) → Bounds pr.work q pr.book.answers.items pr.book.sessions.items
@@ -213,7 +210,7 @@ module _ {D : Type 0} (g : Ghosts D) (run_of : Run) (pr : PrimaryView D) (n afte
 
   pub freed_stands : StandsWith g run_of (record pr { book = book }) after
   freed_stands = record {
-    primary = record { book = is_book; names = stands.primary.names; own = stands.primary.own; up = stands.primary.up; down = stands.primary.down };
+    primary = record { book = is_book; names = stands.primary.names; places = stands.primary.places; own = stands.primary.own; up = stands.primary.up };
     desk = f.desk;
     agrees = (stands.agrees.0, freed_agrees stands.agrees.0 stands.agrees.1);
   }

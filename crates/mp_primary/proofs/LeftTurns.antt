@@ -1,6 +1,5 @@
 -- A turn of an open transaction: its statement is no `begin`; and where it is its `rollback`, the transaction is left first.
-use Rattle.std.proofs.Common.{◌≡◌, ◌≢◌, ℕ, ◌<◌, Bool, true, List, slice_get, Option, None, Some, IfSome, refl, sym, ap, subst, ◌∙◌}
-use Rattle.mp_machine.specs.View.{part_in}
+use Rattle.std.proofs.Common.{◌≡◌, ℕ, ◌<◌, true, List, slice_get, Option, Some, IfSome, sym, ap, subst, ◌∙◌}
 use Rattle.mp_model.specs.declared.list.Items.{Items}
 use Rattle.mp_model.specs.declared.replies.Answer.{Answer}
 use Rattle.mp_model.specs.declared.waiting.Turn.{Turn}
@@ -12,15 +11,15 @@ use Rattle.mp_script.specs.Spelling.{MayStand}
 use Rattle.mp_core_trx.specs.declared.part.Begun.{Begun}
 use Rattle.mp_book.specs.declared.book.Book.{Book}
 use Rattle.mp_book.specs.declared.session.Session.{Session}
-use Rattle.mp_book.specs.declared.stage.Stage.{Stage}
 use Rattle.mp_book.specs.declared.stage.Stage.TheVariants.{Open, Leaving, Outside}
 use Rattle.mp_book.specs.Answered.{execution_above, NoneShowsDown}
-use Rattle.mp_book.specs.Books.{IsBook, IsNext, SetsSession, HasRoom, StageStands}
+use Rattle.mp_book.specs.Books.{IsBook, SetsSession, StageStands}
 use Rattle.mp_outside.specs.declared.disks.Disk.{Ghosts}
 use Rattle.mp_shared.specs.Nodes.{Run, NodeView}
 use Rattle.mp_shared.proofs.Holding.{held_part}
 use Rattle.mp_primary.specs.Primaries.{PrimaryView, StandsWith}
-use Rattle.mp_primary.specs.Turns.{TakesTurn, ComesTo, TriesAt, IsTakenBack}
+use Rattle.mp_primary.specs.Turns.{ComesTo, TriesAt, IsTakenBack}
+use Rattle.mp_primary.specs.Tries.{TriesTurn}
 use Rattle.mp_primary.proofs.OpenSessions.{one_of}
 use Rattle.mp_primary.proofs.AnsweredTurns.{calm}
 use Rattle.mp_primary.proofs.SameSessions.{StandsAsBefore, here, next_on, same_stands, same_turn}
@@ -92,8 +91,8 @@ module _ {D : Type 0} (g : Ghosts D) (run : Run) (inside old : PrimaryView D) (v
   pub up_left : old.down ≡ 0 → inside.down ≡ 0
   up_left up = ap (λ (v : PrimaryView D). v.down) view ∙ up
 
-  pub turn_left : (new : PrimaryView D) (now : NodeView) (turn : Turn) → TakesTurn g run (record inside { book = book }) new n now (Some number) turn → TakesTurn g run old new n now (Some number) turn
+  pub turn_left : (new : PrimaryView D) (now : NodeView) (turn : Turn) → TriesTurn g run (record inside { book = book }) new n now (Some number) turn → TriesTurn g run old new n now (Some number) turn
   turn_left new now turn h =
-      subst (λ (v : PrimaryView D). TakesTurn g run v new n now (Some number) turn) view
+      subst (λ (v : PrimaryView D). TriesTurn g run v new n now (Some number) turn) view
       (same_turn g inside book number tries_inside.session (record (tries_inside.session) { stage = Leaving trx })
-      (as_before g run inside n number trx stmt tries_inside book set_inside book_inside) run new n now turn h)
+      (as_before g run inside n number trx stmt tries_inside book set_inside book_inside) run new n now set_inside.answers turn h)

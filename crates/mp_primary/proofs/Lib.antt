@@ -1,4 +1,5 @@
 pub mod BegunByAnswers
+pub mod IfWaits
 pub mod StillInTurns
 pub mod QuietTurns
 pub mod OpenSessions
@@ -52,3 +53,9 @@ pub mod CommitsOutside
 pub mod AllAnswered
 pub mod AddedByCount
 pub mod StandsBeside
+pub mod OnlyDowns
+pub mod DownTellings
+pub mod Lookings
+pub mod TakenTurns
+pub mod OutsideEnds
+pub mod OwnNumbers

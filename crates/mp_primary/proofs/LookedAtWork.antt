@@ -36,7 +36,8 @@ use Rattle.mp_desk.proofs.MediaMoved.{part_looked}
 use Rattle.mp_desk.proofs.Moving.{moves_as}
 use Rattle.mp_desk.proofs.PutBackRows.{moves_quiet_looked, did_quiet}
 use Rattle.mp_primary.specs.Primaries.{PrimaryView, StandsWith}
-use Rattle.mp_primary.specs.Turns.{TakesTurn, TriesAt}
+use Rattle.mp_primary.specs.Turns.{TriesAt}
+use Rattle.mp_primary.specs.Tries.{TriesTurn}
 use Rattle.mp_primary.specs.AtWork.{IsAtWork}
 use Rattle.mp_primary.specs.Reads.{FindsReply, StopsReading}
 use Rattle.mp_primary.proofs.OpenReaders.{starts_given, knows_view, is_trx_of}
@@ -52,7 +53,7 @@ did_so p a b looked trace so = record {
   frames = looked.frames;
   others = looked.others;
   mine = λ q has. let r =
-      looked.mine q has in (r.0, r.1, so q r.0 has r.1 r.2);
+      looked.mine q has in (r.0, r.1, so q r.0 has r.1 r.2, r.3);
 }
 
 -- a quiet part left nothing
@@ -77,7 +78,7 @@ module _ {D : Type 0} (g : Ghosts D) (run : Run) (old : PrimaryView D) (before n
       let has = held_part before old.number stands.desk.part in
       let was = stands.agrees.1 has.0 has.1 in
       part_looked g old.work old.number 0 old.media has.0 r (moved OnlyLooked old.number before n looks.looked has.0 r has.1 there)
-      (subst (λ (k : ℕ). HoldsPartOf g old.work k old.media has.0) up was.media)
+      (subst (λ (k : ℕ). HoldsPartOf g old.work k old.number old.media has.0) up was.media)
 
   pub looked_work : (trace : Trace) → Moves (λ q r. Did q r trace) old.number before n
       → IsAtWork g run old (record old { desk = desk }) before n trace
@@ -87,7 +88,7 @@ module _ {D : Type 0} (g : Ghosts D) (run : Run) (old : PrimaryView D) (before n
     desk = at;
     own = ap (λ (m : Mtr). m.node) looks.work.1 ∙ stands.primary.own;
     log = let l = (stands.primary.up up).0 in record
-        { live = l.live; node = l.node; last = (let last = l.last in let llsn = looks.llsn in omega (arith, last, llsn)) };
+        { live = l.live; node = l.node; last = (let last = l.last in let llsn = looks.llsn in omega (arith, last, llsn)); fits = l.fits };
     media = looked_media;
     did = did;
     faults = omega arith;
@@ -251,7 +252,7 @@ tries_inside g run view now same before number trx stmt tries =
     subst (λ (v : PrimaryView _). TriesAt g run v before number trx stmt) (sym same) tries
 
 pub turn_outside : {D : Type 0} (g : Ghosts D) (run : Run) (view now : PrimaryView D) → view ≡ now
-    → (new : PrimaryView D) (before n : NodeView) (number : ℕ) (turn : Turn) → TakesTurn g run view new before n (Some number) turn
-    → TakesTurn g run now new before n (Some number) turn
+    → (new : PrimaryView D) (before n : NodeView) (number : ℕ) (turn : Turn) → TriesTurn g run view new before n (Some number) turn
+    → TriesTurn g run now new before n (Some number) turn
 turn_outside g run view now same new before n number turn h =
-    subst (λ (v : PrimaryView _). TakesTurn g run v new before n (Some number) turn) same h
+    subst (λ (v : PrimaryView _). TriesTurn g run v new before n (Some number) turn) same h

@@ -1,5 +1,5 @@
 -- A rollback outside a turn: it goes on quietly, and then the transaction is freed.
-use Rattle.std.proofs.Common.{◌≡◌, ◌≢◌, ℕ, ◌≤◌, ◌⊎◌, List, [], ◌∷◌, ◌++◌, slice_get, get_or, Option, None, Some, Result, Ok, Err, refl, sym, ap, subst, ◌∙◌, inl, inr, arith}
+use Rattle.std.proofs.Common.{◌≡◌, ◌≢◌, ℕ, List, [], ◌++◌, slice_get, get_or, Option, None, Some, Ok, Err, refl, sym, ap, subst, ◌∙◌, inl, inr, arith, ⊎_elim}
 use Rattle.std.proofs.lemmas.List.{append-nil}
 use Rattle.std.proofs.lemmas.Option.{slice_get_within}
 use Rattle.mp_machine.specs.View.{part_in}
@@ -19,6 +19,7 @@ use Rattle.mp_book.specs.declared.stage.Stage.TheVariants.{Open, Outside}
 use Rattle.mp_book.specs.Stages.{trx_of_stage, HaveOneRowEach}
 use Rattle.mp_book.specs.Books.{IsBook, SetsSession}
 use Rattle.mp_outside.specs.declared.disks.Disk.{Ghosts}
+use Rattle.mp_outside.specs.Faults.{Rose}
 use Rattle.mp_shared.specs.Nodes.{Run, NodeView, MayTake, Reached}
 use Rattle.mp_trx_fusion.specs.Calls.{with_trx}
 use Rattle.mp_buffer_fusion.proofs.Kept.{set_here, set_else}
@@ -26,15 +27,18 @@ use Rattle.mp_supports.specs.Supports.{no_trace}
 use Rattle.mp_supports.specs.Kept.{Entry, Did}
 use Rattle.mp_desk.specs.declared.halts.BackHalt.{BackHalt}
 use Rattle.mp_desk.specs.declared.halts.BackHalt.TheVariants as backs
+use Rattle.mp_desk.specs.declared.media.Media.{Media}
 use Rattle.mp_desk.specs.Desks.{Moves}
 use Rattle.mp_desk.proofs.Moving.{moves_as, goes_both}
 use Rattle.mp_primary.specs.Primaries.{PrimaryView, PrimaryAgreesIn, PrimaryAgrees, StandsWith}
 use Rattle.mp_primary.specs.Turns.{IsSessionOf}
 use Rattle.mp_primary.specs.GoingOn.{GoesBackOf, CountsBack, IsAllBack, LeavesRows, GoesOnQuietly}
-use Rattle.mp_primary.specs.OutsideCalls.{HasOpenStill, CallsOutside, RollsBackAs, refusal_of}
+use Rattle.mp_primary.specs.OutsideCalls.{HasOpenStill}
+use Rattle.mp_primary.specs.OutsideTries.{TriesOutside, BacksOutAs}
 use Rattle.mp_primary.proofs.OpenSessions.{one_of}
 use Rattle.mp_primary.proofs.FreedSlots.{Freeing, freeing, freed_stands, freed_agrees}
 use Rattle.mp_primary.proofs.BackTurns.{stood_at}
+use Rattle.mp_primary.proofs.QuietlyOn.{quiet_both}
 use Rattle.mp_primary.proofs.BackEnds.{counted_there, may_end_inside}
 use Rattle.mp_primary.proofs.TakenBack.{read_trx, staged_quietly, leaves_from}
 
@@ -49,24 +53,25 @@ module _ {D : Type 0} (g : Ghosts D) (run : Run) where
   quiet_goes old mid before n number h = moves_as old.number (λ q r. Did q r no_trace) CoreExtends did_extends before n h.did
 
   -- two quiet steps, one after the other
-  pub calls_quietly : (old mid new : PrimaryView D) (before n after : NodeView) (number : ℕ) → GoesOnQuietly g run old mid before n number → GoesOnQuietly g run mid new n after number → CallsOutside g run old new before after number
-  calls_quietly old mid new before n after number one two = record {
+  pub calls_quietly : (old mid new : PrimaryView D) (before n after : NodeView) (number : ℕ) → old.down ≡ 0 → GoesOnQuietly g run old mid before n number → GoesOnQuietly g run mid new n after number → TriesOutside g run old new before after number
+  calls_quietly old mid new before n after number up one two = record {
     stands = two.stands;
     number = two.number ∙ one.number;
     work = two.work ∙ one.work;
-    answers = two.answers ∙ one.answers;
+    answers = ap (λ (l : Listed Answer). l.items) (two.answers ∙ one.answers);
     went = goes_both old.number before n after (quiet_goes old mid before n number one) (subst (λ (k : ℕ). Moves CoreExtends k n after) one.number (quiet_goes mid new n after number two));
     goes_on = λ entries agreed. ([], tt, λ q has. subst (λ (l : List Entry). PrimaryAgrees g new l q) (sym (append-nil entries)) (two.goes_on entries (one.goes_on entries agreed) q has));
     others = λ other ne. two.others other (λ same. ne (sym same)) ∙ one.others other (λ same. ne (sym same));
+    down = ⊎_elim (λ same. inl (same ∙ up)) (λ fell. inr (fell.1, fell.2)) (quiet_both g run old mid new before n after number one two).down;
     faults = let first = one.faults in let second = two.faults in omega (arith, first, second);
     tells = two.tells ∙ one.tells;
   }
 
   -- and a last one
-  pub calls_then : (old mid new : PrimaryView D) (before n after : NodeView) (number : ℕ) → CallsOutside g run old mid before n number → StandsWith g run new after → new.number ≡ mid.number → new.work ≡ mid.work → new.book.answers.items ≡ mid.book.answers.items
-      → Moves CoreExtends mid.number n after → ((entries : List Entry) → PrimaryAgreesIn g mid entries n → PrimaryAgreesIn g new entries after) → new.media ≡ mid.media
-      → ((other : ℕ) → number ≢ other → slice_get new.book.sessions.items other ≡ slice_get mid.book.sessions.items other) → CallsOutside g run old new before after number
-  calls_then old mid new before n after session one stands number work answers went goes media others = record {
+  pub calls_then : (old mid new : PrimaryView D) (before n after : NodeView) (number : ℕ) → TriesOutside g run old mid before n number → StandsWith g run new after → new.number ≡ mid.number → new.work ≡ mid.work → new.book.answers.items ≡ mid.book.answers.items
+      → Moves CoreExtends mid.number n after → ((entries : List Entry) → PrimaryAgreesIn g mid entries n → PrimaryAgreesIn g new entries after) → new.media ≡ mid.media → new.down ≡ mid.down
+      → ((other : ℕ) → number ≢ other → slice_get new.book.sessions.items other ≡ slice_get mid.book.sessions.items other) → TriesOutside g run old new before after number
+  calls_then old mid new before n after session one stands number work answers went goes media down others = record {
     stands = stands;
     number = number ∙ one.number;
     work = work ∙ one.work;
@@ -74,6 +79,7 @@ module _ {D : Type 0} (g : Ghosts D) (run : Run) where
     went = goes_both old.number before n after one.went (subst (λ (k : ℕ). Moves CoreExtends k n after) one.number went);
     goes_on = λ entries agreed. let x = one.goes_on entries agreed in (x.0, x.1, goes (entries ++ x.0) x.2);
     others = λ other ne. others other ne ∙ one.others other ne;
+    down = ⊎_elim (λ zero. inl (down ∙ zero)) (λ here. inr (down ∙ here.0, subst (λ (m : Media D). Rose (g.faults old.media.log.disk) (g.faults m.log.disk)) (sym media) here.1)) one.down;
     faults = let first = one.faults in let same = ap (λ m. g.faults m.log.disk) media in omega (arith, first, same);
     tells = ap (λ m. g.tells m.log.disk) media ∙ one.tells;
   }
@@ -128,8 +134,8 @@ module _ {D : Type 0} (g : Ghosts D) (run : Run) (inside old : PrimaryView D) (v
 
     -- and its rows are put back
     module _ (mid : PrimaryView D) (n1 : NodeView) (quiet : GoesOnQuietly g run (record inside { book = book }) mid n n1 number) (counts : (count : ℕ) × CountsBack (record inside { book = book }) mid number count) where
-      pub out_calls : CallsOutside g run old mid n n1 number
-      out_calls = calls_quietly g run old (record inside { book = book }) mid n n n1 number out_quietly quiet
+      pub out_calls : TriesOutside g run old mid n n1 number
+      out_calls = calls_quietly g run old (record inside { book = book }) mid n n n1 number up out_quietly quiet
 
       abbrev done : Session
       done = record out { restored = counts.0 }
@@ -141,13 +147,13 @@ module _ {D : Type 0} (g : Ghosts D) (run : Run) (inside old : PrimaryView D) (v
       mid_number = out_calls.number
 
       -- a page couldn't be had, or the disk failed
-      pub out_halted : (halt : BackHalt) → LeavesRows g (record inside { book = book }) mid n n1 halt → (down : ℕ) → down ≡ mid.down → (b : Begun) → HasOpenStill old number b → RollsBackAs g old mid n n1 number b (Err (refusal_of down halt))
-      out_halted halt left down is b has =
+      pub out_halted : (halt : BackHalt) → LeavesRows g (record inside { book = book }) mid n n1 halt → (b : Begun) → HasOpenStill old number b → BacksOutAs g old mid n n1 number b (Err halt)
+      out_halted halt left b has =
           by_halt halt (leaves_from g run old (record inside { book = book }) mid n n1 number out_quietly halt left) (same_trx g run old n number stands up asked.0 b asked.1 has ∙ sym trx_is)
         where
-          by_halt : (halt : BackHalt) → LeavesRows g old mid n n1 halt → b ≡ trx → RollsBackAs g old mid n n1 number b (Err (refusal_of down halt))
+          by_halt : (halt : BackHalt) → LeavesRows g old mid n n1 halt → b ≡ trx → BacksOutAs g old mid n n1 number b (Err halt)
           by_halt (backs.Word wait) left same = (left.0, (done, done_there, ap (λ (v : Begun). Outside (Some v)) (sym same), own.3), left.1)
-          by_halt backs.Failed left same = ((left.0, left.2), is ∙ left.0)
+          by_halt backs.Failed left same = (left.0, left.2)
 
       -- it is freed
       module _ (then_in : PrimaryView D) (view_then : then_in ≡ mid) (mid_up : mid.down ≡ 0) (all : IsAllBack mid number) where
@@ -174,15 +180,15 @@ module _ {D : Type 0} (g : Ghosts D) (run : Run) (inside old : PrimaryView D) (v
           answers_last : last.answers.items ≡ then_in.book.answers.items
           answers_last = ap (λ (l : Listed Answer). l.items) sets_last.answers
 
-          pub freed_calls : CallsOutside g run old (record then_in { book = last }) n after number
+          pub freed_calls : TriesOutside g run old (record then_in { book = last }) n after number
           freed_calls =
-              calls_then g run old then_in (record then_in { book = last }) n n1 after number (subst (λ (v : PrimaryView D). CallsOutside g run old v n n1 number) (sym view_then) out_calls)
+              calls_then g run old then_in (record then_in { book = last }) n n1 after number (subst (λ (v : PrimaryView D). TriesOutside g run old v n n1 number) (sym view_then) out_calls)
               (freed_stands g run then_in n1 after number done trx stands_then up_then freed (record done { stage = Outside None }) refl (inr (refl, refl)) last answers_last sets_last.sessions (keeps stands_then.primary.book))
               refl refl answers_last freed.goes
-              (freed_agrees g run then_in n1 after number done trx stands_then up_then freed (record done { stage = Outside None }) refl (inr (refl, refl)) last answers_last sets_last.sessions (keeps stands_then.primary.book)) refl
+              (freed_agrees g run then_in n1 after number done trx stands_then up_then freed (record done { stage = Outside None }) refl (inr (refl, refl)) last answers_last sets_last.sessions (keeps stands_then.primary.book)) refl refl
               (λ other ne. ap (λ (l : List Session). slice_get l other) sets_last.sessions ∙ set_else then_in.book.sessions.items number other (record done { stage = Outside None }) (λ same. ne (sym same)))
 
-          pub freed_ended : (b : Begun) → HasOpenStill old number b → RollsBackAs g old (record then_in { book = last }) n after number b (Ok tt)
+          pub freed_ended : (b : Begun) → HasOpenStill old number b → BacksOutAs g old (record then_in { book = last }) n after number b (Ok tt)
           freed_ended b has =
               let same : b ≡ trx = same_trx g run old n number stands up asked.0 b asked.1 has ∙ sym trx_is in
               let number_is : then_in.number ≡ old.number = ap (λ (v : PrimaryView D). v.number) view_then ∙ mid_number in (

@@ -1,5 +1,5 @@
 -- A turn that answered a session's next statement, and took no step.
-use Rattle.std.proofs.Common.{◌≡◌, ◌≢◌, ℕ, zero, suc, ◌+◌, ◌<◌, ◌≤◌, ◌⊎◌, Bool, true, false, List, [], ◌∷◌, ◌++◌, length, drop, slice_get, slice_set, Option, None, Some, IfSome, refl, sym, ap, subst, ◌∙◌, inl, inr, arith, length-append}
+use Rattle.std.proofs.Common.{◌≡◌, ◌≢◌, ℕ, zero, suc, ◌<◌, ◌≤◌, ◌⊎◌, Bool, true, false, List, [], ◌∷◌, ◌++◌, length, drop, slice_get, slice_set, Option, None, Some, IfSome, refl, sym, ap, subst, ◌∙◌, inl, inr, arith}
 use Rattle.mp_machine.specs.View.{part_in}
 use Rattle.mp_model.specs.declared.replies.Answer.{Answer}
 use Rattle.mp_model.specs.declared.replies.Reply.{Reply}
@@ -20,16 +20,16 @@ use Rattle.mp_core.specs.declared.part.CorePart.{CorePart}
 use Rattle.mp_book.specs.declared.book.Book.{Book}
 use Rattle.mp_book.specs.declared.session.Session.{Session}
 use Rattle.mp_book.specs.declared.stage.Stage.{Stage}
-use Rattle.mp_book.specs.declared.stage.Stage.TheVariants.{Closed, Skipping}
-use Rattle.mp_book.specs.Stages.{next_line, task_by, task_of, trx_of_stage, with_former}
-use Rattle.mp_book.specs.Through.{has_no_task, is_no_task}
+use Rattle.mp_book.specs.declared.stage.Stage.TheVariants.{Skipping}
+use Rattle.mp_book.specs.Stages.{next_line, task_by, trx_of_stage, with_former}
+use Rattle.mp_book.specs.Through.{is_no_task}
 use Rattle.mp_book.specs.Answered.{execution_above, NoneShowsDown}
-use Rattle.mp_book.specs.Books.{IsBook, IsNext, IsAnswered, NextFits, StageStands, stage_after, skipped_to}
+use Rattle.mp_book.specs.Books.{IsBook, IsNext, IsAnswered, StageStands, stage_after, skipped_to}
 use Rattle.mp_outside.specs.declared.disks.Disk.{Ghosts}
 use Rattle.mp_shared.specs.Nodes.{Run, NodeView}
 use Rattle.mp_shared.proofs.Holding.{held_part}
 use Rattle.mp_supports.specs.Work.{Work}
-use Rattle.mp_supports.specs.Supports.{Trace, no_trace, SupportsReply, SupportsWaits, Supports}
+use Rattle.mp_supports.specs.Supports.{no_trace, SupportsReply, SupportsWaits}
 use Rattle.mp_supports.specs.Kept.{Entry}
 use Rattle.mp_supports.specs.Agreement.{IsOpenAs, RefusalSupported, Opens, Bounds, rows_left, rows_left_by}
 use Rattle.mp_buffer_fusion.proofs.Kept.{set_here, set_else}
@@ -37,9 +37,9 @@ use Rattle.mp_supports.proofs.Classes.{did_looked}
 use Rattle.mp_supports.proofs.Extending.{core_extends_refl}
 use Rattle.mp_supports.proofs.Places.{at_place}
 use Rattle.mp_supports.proofs.BoundSteps.{bounds_answered}
-use Rattle.mp_desk.specs.Desks.{IsAtDesk}
-use Rattle.mp_primary.specs.Primaries.{PrimaryView, IsPrimary, AreSessions, AreWaitsSupported, PrimaryAgreesIn, PrimaryAgrees, StandsWith}
-use Rattle.mp_primary.specs.Turns.{IsSessionOf, IsInTurns, Adds, GoesOnBy, TakesTurn, ComesTo, has_nothing_left, no_task_in, HasNoStatement, NamesWait, TellsDown}
+use Rattle.mp_primary.specs.Primaries.{PrimaryView, AreSessions, AreWaitsSupported, PrimaryAgreesIn, PrimaryAgrees}
+use Rattle.mp_primary.specs.Turns.{IsSessionOf, IsInTurns, Adds, GoesOnBy, ComesTo, ComesToStop, has_nothing_left, no_task_in, TellsDown}
+use Rattle.mp_primary.specs.Tries.{TriesTurn}
 use Rattle.mp_desk.proofs.Moving.{looked_none, goes_none}
 use Rattle.mp_primary.proofs.OpenSessions.{one_of, waits_ended, sessions_set, waits_set, opens_set}
 use Rattle.mp_primary.proofs.AnsweredTurns.{calm, AnswersWell, goes_on_answered, line_found}
@@ -70,7 +70,11 @@ false_not_true e = cc
 pub some_not_none : (line : Line) → Some line ≡ None → ⊥
 some_not_none line e = cc
 
-module _ {D : Type 0} (g : Ghosts D) (run : Run) (old : PrimaryView D) (book : Book) (n : NodeView) (number : ℕ) (s : Session) (line : Line) (comes : ComesTo g run old n number s line) (reply : Reply) (stage : Stage) (formers : List Row) (restored : ℕ) (is : IsAnswered old.book book number s line reply stage formers restored) (books : IsBook old.work.lines old.work.sessions old.number book) where
+-- what is to be tried may be stopped
+pub to_stop : {D : Type 0} (g : Ghosts D) (run : Run) (pr : PrimaryView D) (n : NodeView) (number : ℕ) (s : Session) (line : Line) → ComesTo g run pr n number s line → ComesToStop g run pr n number s line
+to_stop g run pr n number s line comes = record { stands = comes.stands; next = comes.next; inside = comes.inside; room = comes.room.answer }
+
+module _ {D : Type 0} (g : Ghosts D) (run : Run) (old : PrimaryView D) (book : Book) (n : NodeView) (number : ℕ) (s : Session) (line : Line) (comes : ComesToStop g run old n number s line) (reply : Reply) (stage : Stage) (formers : List Row) (restored : ℕ) (is : IsAnswered old.book book number s line reply stage formers restored) (books : IsBook old.work.lines old.work.sessions old.number book) where
   abbrev new : PrimaryView D
   new = record old { book = book }
 
@@ -127,10 +131,10 @@ module _ {D : Type 0} (g : Ghosts D) (run : Run) (old : PrimaryView D) (book : B
       goes : (entries : List Entry) → PrimaryAgreesIn g old entries n → GoesOnBy g old new n n (Some number) entries turns.Answered
       goes = goes_on_answered g old new n n number s line reply stage formers restored comes.next is refl refl no_trace has.0 has.1 well tt
 
-      pub answered_turn : ((view : ℕ) → reply ≢ Began view) → cts_of reply ≡ None → (reply ≡ Skipped → old.down ≡ 0) → TellsDown old.down reply → IsInTurns stage → TakesTurn g run old new n n (Some number) turns.Answered
+      pub answered_turn : ((view : ℕ) → reply ≢ Began view) → cts_of reply ≡ None → (reply ≡ Skipped → old.down ≡ 0) → TellsDown old.down reply → IsInTurns stage → TriesTurn g run old new n n (Some number) turns.Answered
       answered_turn no_begin no_stamp skips stops inside = record {
         stands = record {
-          primary = record { book = books; names = comes.stands.primary.names; own = comes.stands.primary.own; up = comes.stands.primary.up; down = comes.stands.primary.down };
+          primary = record { book = books; names = comes.stands.primary.names; places = comes.stands.primary.places; own = comes.stands.primary.own; up = comes.stands.primary.up };
           desk = comes.stands.desk;
           agrees = let more = goes comes.stands.agrees.0 comes.stands.agrees.1 in (comes.stands.agrees.0 ++ more.more, more.agrees);
         };
@@ -141,6 +145,8 @@ module _ {D : Type 0} (g : Ghosts D) (run : Run) (old : PrimaryView D) (book : B
         others = λ other ne. ap (λ (l : List Session). slice_get l other) is.sessions ∙ set_else old.book.sessions.items number other is.after (λ same. ne (ap (λ (k : ℕ). Some k) (sym same)));
         named = λ x there. ap (λ (v : Session). v.waits.items) (one_of (slice_get book.sessions.items number) is.after x (ap (λ (l : List Session). slice_get l number) is.sessions ∙ set_here old.book.sessions.items number is.after (within old.book.sessions.items number s found)) there) ∙ is.goes.waits;
         cause = tt;
+        up = tt;
+        answers = tt;
         down = inl refl;
         faults = omega arith;
         tells = refl;
@@ -172,7 +178,7 @@ no_trx false = refl
 not_a_begin : (stmt : Stmt) → MayStand true stmt → stmt ≢ Begin
 not_a_begin stmt may is = subst (MayStand true) is may
 
-module _ {D : Type 0} (g : Ghosts D) (run : Run) (old : PrimaryView D) (book : Book) (n : NodeView) (number : ℕ) (s : Session) (line : Line) (comes : ComesTo g run old n number s line) where
+module _ {D : Type 0} (g : Ghosts D) (run : Run) (old : PrimaryView D) (book : Book) (n : NodeView) (number : ℕ) (s : Session) (line : Line) (comes : ComesToStop g run old n number s line) where
   old_calm : old.down ≡ 0 → NoneShowsDown old.book.answers.items
   old_calm up =
       let h = held_part n old.number comes.stands.desk.part in
@@ -181,7 +187,7 @@ module _ {D : Type 0} (g : Ghosts D) (run : Run) (old : PrimaryView D) (book : B
 
   pub skipped_turn : s.stage ≡ Skipping → old.down ≡ 0 → IsAnswered old.book book number s line Skipped (stage_after s.stage line.stmt Skipped) (with_former s.formers.items None) s.restored
       → ((lines : List Line) (sessions : List SessionOn) (primary : ℕ) → IsBook lines sessions primary old.book → (is_stopped Skipped ≡ true) ⊎ NoneShowsDown old.book.answers.items → IsBook lines sessions primary book)
-      → TakesTurn g run old (record old { book = book }) n n (Some number) turns.Answered
+      → TriesTurn g run old (record old { book = book }) n n (Some number) turns.Answered
   skipped_turn skipping up is books =
       let stands = comes.stands.primary.book.each number s comes.next.found in
       let stage : StageStands (execution_above old.work.lines old.work.sessions old.book.answers.items) old.number number s Skipping = subst (StageStands (execution_above old.work.lines old.work.sessions old.book.answers.items) old.number number s) skipping (stands.stage (old_calm up)) in
@@ -204,10 +210,10 @@ module _ {D : Type 0} (g : Ghosts D) (run : Run) (old : PrimaryView D) (book : B
       skipped_not_began : (view : ℕ) → Skipped ≡ Began view → ⊥
       skipped_not_began view e = cc
 
-module _ {D : Type 0} (g : Ghosts D) (run : Run) (old : PrimaryView D) (book : Book) (n : NodeView) (number : ℕ) (s : Session) (line : Line) (comes : ComesTo g run old n number s line) where
+module _ {D : Type 0} (g : Ghosts D) (run : Run) (old : PrimaryView D) (book : Book) (n : NodeView) (number : ℕ) (s : Session) (line : Line) (comes : ComesToStop g run old n number s line) where
   pub stopped_answer : (by : ℕ) → old.down ≡ by → by ≢ 0 → IsAnswered old.book book number s line (Stopped by) (stage_after s.stage line.stmt (Stopped by)) (with_former s.formers.items None) s.restored
       → ((lines : List Line) (sessions : List SessionOn) (primary : ℕ) → IsBook lines sessions primary old.book → (is_stopped (Stopped by) ≡ true) ⊎ NoneShowsDown old.book.answers.items → IsBook lines sessions primary book)
-      → TakesTurn g run old (record old { book = book }) n n (Some number) turns.Answered
+      → TriesTurn g run old (record old { book = book }) n n (Some number) turns.Answered
   stopped_answer by down some is books =
       answered_turn g run old book n number s line comes (Stopped by) s.stage s.formers.items s.restored is
       (books old.work.lines old.work.sessions old.number comes.stands.primary.book (inl refl))
@@ -233,20 +239,31 @@ module _ {D : Type 0} (g : Ghosts D) (run : Run) (old : PrimaryView D) (book : B
       stopped_not_skipped e = cc
 
 -- the same, of what a method sees inside
-module _ {D : Type 0} (g : Ghosts D) (inside old : PrimaryView D) (view : inside ≡ old) (run : Run) (book : Book) (n : NodeView) (number : ℕ) (s : Session) (line : Line) (comes : ComesTo g run old n number s line) where
-  inside_comes : ComesTo g run inside n number s line
-  inside_comes = subst (λ (v : PrimaryView D). ComesTo g run v n number s line) (sym view) comes
+module _ {D : Type 0} (g : Ghosts D) (inside old : PrimaryView D) (view : inside ≡ old) (run : Run) (book : Book) (n : NodeView) (number : ℕ) (s : Session) (line : Line) (comes : ComesToStop g run old n number s line) where
+  inside_comes : ComesToStop g run inside n number s line
+  inside_comes = subst (λ (v : PrimaryView D). ComesToStop g run v n number s line) (sym view) comes
 
   pub skipped_inside : s.stage ≡ Skipping → old.down ≡ 0 → ((x : Session) (l : Line) → IsNext inside.book number x l → IsAnswered inside.book book number x l Skipped (stage_after x.stage l.stmt Skipped) (with_former x.formers.items None) x.restored)
       → ((lines : List Line) (sessions : List SessionOn) (primary : ℕ) → IsBook lines sessions primary inside.book → (is_stopped Skipped ≡ true) ⊎ NoneShowsDown inside.book.answers.items → IsBook lines sessions primary book)
-      → TakesTurn g run old (record inside { book = book }) n n (Some number) turns.Answered
+      → TriesTurn g run old (record inside { book = book }) n n (Some number) turns.Answered
   skipped_inside skipping up is books =
-      subst (λ (v : PrimaryView D). TakesTurn g run v (record inside { book = book }) n n (Some number) turns.Answered) view
+      subst (λ (v : PrimaryView D). TriesTurn g run v (record inside { book = book }) n n (Some number) turns.Answered) view
       (skipped_turn g run inside book n number s line inside_comes skipping (ap (λ (v : PrimaryView D). v.down) view ∙ up) (is s line inside_comes.next) books)
 
   pub stopped_inside : (by : ℕ) → inside.down ≡ by → old.down ≢ 0 → ((x : Session) (l : Line) → IsNext inside.book number x l → IsAnswered inside.book book number x l (Stopped by) (stage_after x.stage l.stmt (Stopped by)) (with_former x.formers.items None) x.restored)
       → ((lines : List Line) (sessions : List SessionOn) (primary : ℕ) → IsBook lines sessions primary inside.book → (is_stopped (Stopped by) ≡ true) ⊎ NoneShowsDown inside.book.answers.items → IsBook lines sessions primary book)
-      → TakesTurn g run old (record inside { book = book }) n n (Some number) turns.Answered
+      → TriesTurn g run old (record inside { book = book }) n n (Some number) turns.Answered
   stopped_inside by down some is books =
-      subst (λ (v : PrimaryView D). TakesTurn g run v (record inside { book = book }) n n (Some number) turns.Answered) view
+      subst (λ (v : PrimaryView D). TriesTurn g run v (record inside { book = book }) n n (Some number) turns.Answered) view
       (stopped_answer g run inside book n number s line inside_comes by down (λ zero. some (sym (ap (λ (v : PrimaryView D). v.down) view) ∙ down ∙ zero)) (is s line inside_comes.next) books)
+
+  -- the answer tells with which number, and for whom the statement waited
+  pub stopped_reply : (by : ℕ) → inside.down ≡ by → ((x : Session) (l : Line) → IsNext inside.book number x l → IsAnswered inside.book book number x l (Stopped by) (stage_after x.stage l.stmt (Stopped by)) (with_former x.formers.items None) x.restored)
+      → (a : Answer) → Adds old (record inside { book = book }) a → (a.reply ≡ Stopped old.down) × ((x : Session) → IsSessionOf old number x → a.waits.items ≡ x.waits.items)
+  stopped_reply by down is a more =
+      let answered = is s line inside_comes.next in
+      let adds : book.answers.items ≡ inside.book.answers.items ++ a ∷ [] = more ∙ ap (λ (v : PrimaryView D). v.book.answers.items ++ a ∷ []) (sym view) in
+      let same : answered.answer ≡ a = one_answer inside.book.answers.items answered.answer a (sym answered.answers ∙ adds) in (
+        ap (λ (x : Answer). x.reply) (sym same) ∙ answered.reply_is ∙ ap (λ (k : ℕ). Stopped k) (sym down ∙ ap (λ (v : PrimaryView D). v.down) view),
+        λ x there. ap (λ (y : Answer). y.waits.items) (sym same) ∙ answered.waits ∙ ap (λ (v : Session). v.waits.items) (sym (one_of (slice_get old.book.sessions.items number) s x comes.next.found there)),
+      )

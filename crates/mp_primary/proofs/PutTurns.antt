@@ -2,7 +2,6 @@
 use Rattle.std.proofs.Common.{◌≡◌, ℕ, ◌<◌, ◌≤◌, ◌⊎◌, false, List, [], ◌∷◌, length, Option, Some, Result, Err, IfOk, IfErr, OnOk, OnErr, sym, ap, subst, ◌∙◌}
 use Rattle.mp_machine.specs.View.{part_in}
 use Rattle.mp_model.specs.declared.replies.WriteVerb.{WriteVerb}
-use Rattle.mp_model.specs.declared.replies.WriteVerb.TheVariants as verbs
 use Rattle.mp_model.specs.declared.waiting.Turn.{Turn}
 use Rattle.mp_script.specs.declared.statements.Line.{Line}
 use Rattle.mp_script.specs.declared.statements.Stmt.{Stmt}
@@ -31,15 +30,16 @@ use Rattle.mp_desk.specs.Statements.{ReadsIn, StaysQuiet, MakesThen}
 use Rattle.mp_desk.specs.Writes.{PutsValue, HaltsWrite}
 use Rattle.mp_desk.proofs.PutBackRows.{moves_quiet_none}
 use Rattle.mp_primary.specs.Primaries.{PrimaryView}
-use Rattle.mp_primary.specs.Turns.{TakesTurn, TriesAt, IsPutStatement}
+use Rattle.mp_primary.specs.Turns.{TriesAt, IsPutStatement}
+use Rattle.mp_primary.specs.Tries.{TriesTurn}
 use Rattle.mp_primary.specs.WriteTurns.{AfterWrite}
 use Rattle.mp_primary.proofs.FewMtrs.{few_mtrs}
 use Rattle.mp_primary.proofs.OpenReaders.{reads_in, starts_afresh}
 use Rattle.mp_primary.proofs.TriedWrites.{after_write}
 
 -- what a turn of the primary as it is inside is, is one of what its caller sees
-pub seen_turn : {D : Type 0} (g : Ghosts D) (inside old : PrimaryView D) → inside ≡ old → (run : Run) (before after : NodeView) (new : PrimaryView D) (session : Option ℕ) (turn : Turn) → TakesTurn g run inside new before after session turn → TakesTurn g run old new before after session turn
-seen_turn {D} g inside old view run before after new session turn h = subst (λ (v : PrimaryView D). TakesTurn g run v new before after session turn) view h
+pub seen_turn : {D : Type 0} (g : Ghosts D) (inside old : PrimaryView D) → inside ≡ old → (run : Run) (before after : NodeView) (new : PrimaryView D) (session : Option ℕ) (turn : Turn) → TriesTurn g run inside new before after session turn → TriesTurn g run old new before after session turn
+seen_turn {D} g inside old view run before after new session turn h = subst (λ (v : PrimaryView D). TriesTurn g run v new before after session turn) view h
 
 -- a put or a delete writes its key
 pub put_writes : (line : Line) (stmt : Stmt) (verb : WriteVerb) (key : ℕ) (value : Option (List ℕ)) → line.stmt ≡ stmt → IsPutStatement stmt verb key value → WritesKey line verb key
@@ -86,7 +86,7 @@ module _ {D : Type 0} (g : Ghosts D) (inside old : PrimaryView D) (view : inside
   put_log = let t = tries_inside in (t.comes.stands.primary.up t.up).0
 
   pub put_media : MediaAgree g inside.work 0 inside.media inside.number before
-  put_media r there = let t = tries_inside in subst (λ (k : ℕ). HoldsPartOf g inside.work k inside.media r) t.up (t.comes.stands.agrees.1 r there).media
+  put_media r there = let t = tries_inside in subst (λ (k : ℕ). HoldsPartOf g inside.work k inside.number inside.media r) t.up (t.comes.stands.agrees.1 r there).media
 
   pub put_agrees : MediaAgreeSomehow g inside.media inside.number before
   put_agrees = (inside.work, put_media)

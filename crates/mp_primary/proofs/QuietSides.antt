@@ -145,7 +145,7 @@ module _ {D : Type 0} (g : Ghosts D) (run : Run) (old : PrimaryView D) (before n
   pub plain_wait : (mid : PrimaryView D) → mid.book ≡ old.book → (cause : Cause) → ((name : TrxName) → cause ≡ Writer name → ⊥)
       → WaitsFor old number before n cause → IsRightWait g old before n number cause mid
   plain_wait mid same cause no_writer waits = record {
-    answers = ap (λ (k : Book). k.answers.items) same;
+    answers = ap (λ (k : Book). k.answers) same;
     sides = λ entries q r has there was. subst (HasSides old.work r) (sym same) (quiet_sides entries q r has there was);
     others = λ other ne. ap (λ (k : Book). slice_get k.sessions.items other) same;
     named = names cause no_writer;

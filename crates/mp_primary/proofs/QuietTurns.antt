@@ -1,24 +1,23 @@
 -- A turn in which nothing was done.
-use Rattle.std.proofs.Common.{◌≡◌, ◌≢◌, ℕ, ◌+◌, ◌<◌, ◌≤◌, ◌⊎◌, Bool, true, false, List, [], ◌∷◌, ◌++◌, length, slice_get, Option, None, Some, IfSome, refl, sym, ap, subst, ◌∙◌, inl, inr, arith, length-append}
+use Rattle.std.proofs.Common.{◌≡◌, ◌≢◌, ℕ, Bool, true, false, List, [], ◌∷◌, length, slice_get, Option, None, Some, IfSome, refl, sym, ap, subst, ◌∙◌, inl, arith, length-append}
 use Rattle.std.proofs.lemmas.List.{append-nil}
-use Rattle.mp_machine.specs.View.{part_in}
 use Rattle.mp_model.specs.declared.replies.Answer.{Answer}
 use Rattle.mp_model.specs.declared.waiting.Turn.{Turn}
 use Rattle.mp_model.specs.declared.waiting.Turn.TheVariants as turns
-use Rattle.mp_core.specs.declared.part.CorePart.{CorePart}
-use Rattle.mp_core.specs.CoreExtends.{CoreExtends}
 use Rattle.mp_script.specs.declared.statements.Line.{Line}
 use Rattle.mp_book.specs.declared.session.Session.{Session}
 use Rattle.mp_book.specs.declared.stage.Stage.{Stage}
 use Rattle.mp_book.specs.declared.stage.Task.TheVariants.{Statement, Nothing}
 use Rattle.mp_book.specs.Stages.{next_line, task_by, task_of}
-use Rattle.mp_book.specs.Through.{has_no_task, have_no_task, is_no_task}
+use Rattle.mp_book.specs.Through.{have_no_task, is_no_task}
 use Rattle.mp_outside.specs.declared.disks.Disk.{Ghosts}
 use Rattle.mp_shared.specs.Nodes.{Run, NodeView}
 use Rattle.mp_supports.specs.Kept.{Entry}
 use Rattle.mp_primary.specs.Primaries.{PrimaryView, PrimaryAgreesIn, PrimaryAgrees, StandsWith}
-use Rattle.mp_primary.specs.Turns.{IsSessionOf, MayTakeTurn, no_task_in, has_nothing_left, HasNoStatement, Adds, AddsNext, IfWaiting, WaitsFor, NamesWait, IsLeftAfter, GoesOnBy, TakesTurn}
+use Rattle.mp_primary.specs.Turns.{IsSessionOf, MayTakeTurn, no_task_in, has_nothing_left, HasNoStatement, Adds, AddsNext, IfWaiting, WaitsFor, NamesWait, GoesOnBy}
+use Rattle.mp_primary.specs.Tries.{TriesTurn}
 use Rattle.mp_desk.proofs.Moving.{goes_none}
+use Rattle.mp_primary.proofs.IfWaits.{same_if_waits}
 
 one_session : (o : Option Session) (s after : Session) → o ≡ Some s → o ≡ Some after → after ≡ s
 one_session o s after a b = let both : Some after ≡ Some s = sym b ∙ a in cc
@@ -68,11 +67,11 @@ module _ {D : Type 0} (g : Ghosts D) where
       later = tt;
     }
 
-    pub quiet : (turn : Turn) → AddsNext pr pr session [] turn → IfSome session (λ number. NamesWait pr pr number turn) → IfSome session (λ number. IfWaiting turn (WaitsFor pr number n n))
+    pub quiet : (turn : Turn) → AddsNext pr pr session [] turn → IfSome session (λ number. NamesWait pr pr number turn) → IfSome session (λ number. IfWaiting turn (WaitsFor pr number n n)) → IfWaiting turn (λ cause. pr.down ≡ 0)
         → (turn ≡ turns.Done → (pr.down ≡ 0) × (has_nothing_left pr session ≡ true)) × (pr.down ≡ 0 → has_nothing_left pr session ≡ true → turn ≡ turns.Done)
         → ((by : ℕ) → turn ≡ turns.Stopped by → (pr.down ≡ by) × (by ≢ 0) × HasNoStatement pr session) × (pr.down ≢ 0 → HasNoStatement pr session → turn ≡ turns.Stopped pr.down)
-        → TakesTurn g run pr pr n n session turn
-    quiet turn adds named cause done stopped = record {
+        → TriesTurn g run pr pr n n session turn
+    quiet turn adds named cause up done stopped = record {
       stands = stands;
       number = refl;
       work = refl;
@@ -81,6 +80,8 @@ module _ {D : Type 0} (g : Ghosts D) where
       others = λ other ne. refl;
       named = named;
       cause = cause;
+      up = up;
+      answers = same_if_waits turn pr.book.answers;
       down = inl refl;
       faults = omega arith;
       tells = refl;
@@ -103,20 +104,20 @@ module _ {D : Type 0} (g : Ghosts D) where
     no_cause turn has (Some number) = has number
 
     -- down, with nothing to answer
-    pub stopped_turn : (number : ℕ) → number ≡ pr.down → number ≢ 0 → HasNoStatement pr session → TakesTurn g run pr pr n n session (turns.Stopped number)
-    stopped_turn number is down none = quiet (turns.Stopped number) refl (named_same (turns.Stopped number) (λ k same. same) session) (no_cause (turns.Stopped number) (λ k. tt) session)
+    pub stopped_turn : (number : ℕ) → number ≡ pr.down → number ≢ 0 → HasNoStatement pr session → TriesTurn g run pr pr n n session (turns.Stopped number)
+    stopped_turn number is down none = quiet (turns.Stopped number) refl (named_same (turns.Stopped number) (λ k same. same) session) (no_cause (turns.Stopped number) (λ k. tt) session) tt
         ((λ e. absurd (stopped_not_done number e)), (λ up. absurd (down (is ∙ up))))
         ((λ by e. (sym is ∙ stopped_by number by e, (λ zero. down (stopped_by number by e ∙ zero)), none)), (λ still nothing. ap turns.Stopped is))
 
     -- up, with nothing left
-    pub done_turn : pr.down ≡ 0 → has_nothing_left pr session ≡ true → TakesTurn g run pr pr n n session turns.Done
-    done_turn up nothing = quiet turns.Done refl (named_same turns.Done (λ number same. same) session) (no_cause turns.Done (λ number. tt) session)
+    pub done_turn : pr.down ≡ 0 → has_nothing_left pr session ≡ true → TriesTurn g run pr pr n n session turns.Done
+    done_turn up nothing = quiet turns.Done refl (named_same turns.Done (λ number same. same) session) (no_cause turns.Done (λ number. tt) session) tt
         ((λ e. (up, nothing)), (λ still left. refl))
         ((λ by e. absurd (done_not_stopped by e)), (λ down. absurd (down up)))
 
   -- up, with something left, in a turn of no session
-  pub resting_turn : (run : Run) (pr : PrimaryView D) (n : NodeView) → StandsWith g run pr n → pr.down ≡ 0 → have_no_task pr.book.sessions.items ≡ false → TakesTurn g run pr pr n n None turns.Answered
-  resting_turn run pr n stands up some = quiet run pr n stands None tt turns.Answered refl tt tt
+  pub resting_turn : (run : Run) (pr : PrimaryView D) (n : NodeView) → StandsWith g run pr n → pr.down ≡ 0 → have_no_task pr.book.sessions.items ≡ false → TriesTurn g run pr pr n n None turns.Answered
+  resting_turn run pr n stands up some = quiet run pr n stands None tt turns.Answered refl tt tt tt
       ((λ e. absurd (answered_not_done e)), (λ still left. absurd (true_not_false (have_no_task pr.book.sessions.items) left some)))
       ((λ by e. absurd (answered_not_stopped by e)), (λ down. absurd (down up)))
 

@@ -1,5 +1,5 @@
 -- A turn that goes on quietly first, and then as another turn does.
-use Rattle.std.proofs.Common.{◌≡◌, ◌≢◌, ℕ, ◌+◌, ◌<◌, ◌≤◌, ◌⊎◌, Bool, true, false, List, [], ◌∷◌, ◌++◌, length, slice_get, Option, None, Some, IfSome, refl, sym, ap, subst, ◌∙◌, inl, inr, ⊎_elim, arith, length-append}
+use Rattle.std.proofs.Common.{◌≡◌, ◌≢◌, ℕ, ◌+◌, ◌<◌, ◌≤◌, ◌⊎◌, Bool, true, false, List, [], ◌∷◌, ◌++◌, length, slice_get, Option, None, Some, IfSome, refl, sym, ap, subst, ◌∙◌, inl, inr, arith, length-append}
 use mathlib.Core.Logic.{dite}
 use native.Mathlib.Decide.{ℕ_discrete}
 use Rattle.std.specs.List.{AllByRecursion}
@@ -8,14 +8,13 @@ use Rattle.mp_machine.specs.Lists.{IsIn}
 use Rattle.mp_machine.specs.View.{part_in}
 use Rattle.mp_model.specs.declared.ids.TrxName.{TrxName}
 use Rattle.mp_model.specs.declared.replies.Answer.{Answer}
+use Rattle.mp_model.specs.Listed.{Listed}
 use Rattle.mp_model.specs.declared.waiting.Cause.{Cause}
 use Rattle.mp_model.specs.declared.waiting.Cause.TheVariants.{Word, Writer, Prep}
 use Rattle.mp_model.specs.declared.waiting.NotYet.{NotYet}
 use Rattle.mp_model.specs.declared.waiting.Turn.{Turn}
 use Rattle.mp_model.specs.declared.waiting.Turn.TheVariants as turns
-use Rattle.mp_script.specs.declared.statements.Line.{Line}
 use Rattle.mp_cells.specs.declared.records.Mtr.{Mtr}
-use Rattle.mp_core_trx.specs.Parts.{newest}
 use Rattle.mp_core_pages.specs.declared.part.Placed.{Placed}
 use Rattle.mp_core.specs.declared.part.CorePart.{CorePart}
 use Rattle.mp_core.specs.CoreExtends.{CoreExtends}
@@ -34,9 +33,11 @@ use Rattle.mp_desk.proofs.AtDesk.{newest_grows}
 use Rattle.mp_desk.proofs.BackSteps.{rose_later}
 use Rattle.mp_desk.proofs.Moving.{moves_as, moves_both, goes_both}
 use Rattle.mp_desk.proofs.TrxStepped.{DrewTheSame, tso_same, holds_all, knows_less_before}
-use Rattle.mp_primary.specs.Primaries.{PrimaryView, PrimaryAgreesIn, PrimaryAgrees, StandsWith}
-use Rattle.mp_primary.specs.Turns.{IsSessionOf, MayTakeTurn, Adds, AddsAnswer, EndsUnprinted, AddsNext, IsLeftAfter, GoesOnBy, TakesTurn, has_nothing_left, HasNoStatement, NamesWait, IfWaiting, WaitsFor}
+use Rattle.mp_primary.specs.Primaries.{PrimaryView, PrimaryAgrees}
+use Rattle.mp_primary.specs.Turns.{IsSessionOf, MayTakeTurn, Adds, AddsNext, HasWaits, IsLeftAfter, has_nothing_left, HasNoStatement, NamesWait, IfWaiting, WaitsFor}
+use Rattle.mp_primary.specs.Tries.{TriesTurn}
 use Rattle.mp_primary.specs.GoingOn.{GoesOnQuietly}
+use Rattle.mp_primary.proofs.IfWaits.{on_if_waits}
 use Rattle.mp_primary.proofs.OpenSessions.{one_of}
 
 did_extends : (q r : CorePart) → Did q r no_trace → CoreExtends q r
@@ -126,10 +127,10 @@ module _ {D : Type 0} (g : Ghosts D) (run : Run) (old mid : PrimaryView D) (befo
   no_answer : (a : Answer) → Adds old mid a → ⊥
   no_answer a more =
       let longer = length-append old.book.answers.items (a ∷ []) in
-      let same : length (old.book.answers.items ++ a ∷ []) ≡ length old.book.answers.items = ap (λ (l : List Answer). length l) (sym more ∙ first.answers) in
+      let same : length (old.book.answers.items ++ a ∷ []) ≡ length old.book.answers.items = ap (λ (l : List Answer). length l) (sym more ∙ ap (λ (l : Listed Answer). l.items) first.answers) in
       omega (arith, longer, same)
 
-  pub waiting_turn : mid.down ≡ 0 → has_nothing_left old (Some number) ≡ false → (wait : NotYet) → MetWait old.number before n wait → MayTakeTurn mid number → TakesTurn g run old mid before n (Some number) (turns.Waiting (Word wait))
+  pub waiting_turn : mid.down ≡ 0 → has_nothing_left old (Some number) ≡ false → (wait : NotYet) → MetWait old.number before n wait → MayTakeTurn mid number → TriesTurn g run old mid before n (Some number) (turns.Waiting (Word wait))
   waiting_turn up busy wait met may = record {
     stands = first.stands;
     number = first.number;
@@ -144,6 +145,8 @@ module _ {D : Type 0} (g : Ghosts D) (run : Run) (old mid : PrimaryView D) (befo
     others = λ other ne. first.others other (λ same. ne (ap (λ (k : ℕ). Some k) (sym same)));
     named = λ x y a b. ap (λ (v : Session). v.waits.items) (is_t y b) ∙ waits_same ∙ sym (ap (λ (v : Session). v.waits.items) (is_s x a));
     cause = inl met;
+    up = up;
+    answers = first.answers;
     down = first.down;
     faults = first.faults;
     tells = first.tells;
@@ -177,7 +180,7 @@ module _ {D : Type 0} (g : Ghosts D) (run : Run) (old mid : PrimaryView D) (befo
       answer = h.answer;
       of_session = h.of_session;
       index = h.index;
-      waits = h.waits ∙ ap (λ (v : Session). v.waits.items) (is_t h.session h.next.found) ∙ waits_same;
+      waits = subst (λ (l : List TrxName). HasWaits l h.answer) (ap (λ (v : Session). v.waits.items) (is_t h.session h.next.found) ∙ waits_same) h.waits;
       entry = h.entry;
       has = h.has;
       one = h.one;
@@ -204,11 +207,11 @@ module _ {D : Type 0} (g : Ghosts D) (run : Run) (old mid : PrimaryView D) (befo
     named_back turns.Done h = λ x y a b. h t y there b ∙ waits_back x a
     named_back (turns.Stopped by) h = λ x y a b. h t y there b ∙ waits_back x a
 
-    module _ (turn : Turn) (h : TakesTurn g run mid new n after (Some number) turn) where
+    module _ (turn : Turn) (h : TriesTurn g run mid new n after (Some number) turn) where
       adds_mid : (a : Answer) → Adds old new a → Adds mid new a
-      adds_mid a more = more ∙ ap (λ (l : List Answer). l ++ a ∷ []) (sym first.answers)
+      adds_mid a more = more ∙ ap (λ (l : List Answer). l ++ a ∷ []) (sym (ap (λ (l : Listed Answer). l.items) first.answers))
 
-      pub then_turn : has_nothing_left old (Some number) ≡ false → turn ≢ turns.Done → IfWaiting turn (WaitsFor old number before after) → TakesTurn g run old new before after (Some number) turn
+      pub then_turn : has_nothing_left old (Some number) ≡ false → turn ≢ turns.Done → IfWaiting turn (WaitsFor old number before after) → TriesTurn g run old new before after (Some number) turn
       then_turn busy not_done cause = record {
         stands = h.stands;
         number = h.number ∙ first.number;
@@ -218,6 +221,8 @@ module _ {D : Type 0} (g : Ghosts D) (run : Run) (old mid : PrimaryView D) (befo
         others = λ other ne. h.others other ne ∙ first.others other (λ same. ne (ap (λ (k : ℕ). Some k) (sym same)));
         named = named_back turn h.named;
         cause = cause;
+        up = h.up;
+        answers = on_if_waits turn new.book.answers mid.book.answers old.book.answers first.answers h.answers;
         down = down_join g old mid new first.number first.faults h.faults first.down h.down;
         faults = let one = first.faults in let two = h.faults in omega (arith, one, two);
         tells = h.tells ∙ first.tells;

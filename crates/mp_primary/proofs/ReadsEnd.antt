@@ -40,7 +40,8 @@ use Rattle.mp_desk.specs.LetGo.{HasLetGo}
 use Rattle.mp_desk.specs.Statements.{StaysQuiet}
 use Rattle.mp_desk.proofs.PutBackRows.{moves_quiet}
 use Rattle.mp_primary.specs.Primaries.{PrimaryView}
-use Rattle.mp_primary.specs.Turns.{TakesTurn, ComesTo, WaitsFor}
+use Rattle.mp_primary.specs.Turns.{ComesTo, WaitsFor}
+use Rattle.mp_primary.specs.Tries.{TriesTurn}
 use Rattle.mp_primary.specs.AtWork.{IsAtWork, HasClearedDesk}
 use Rattle.mp_primary.specs.Reads.{IsReadOf, FindsReply, StopsReading}
 use Rattle.mp_primary.proofs.LetGoQuietly.{moves_quiet_let_go}
@@ -108,7 +109,7 @@ module _ {D : Type 0} (g : Ghosts D) (run : Run) (old : PrimaryView D) (before m
     pub read_answered : (mid : PrimaryView D) → HasClearedDesk g run old mid before n (looked_trace pages) → (book : Book)
         → IsAnswered old.book book number s line reply (stage_after s.stage line.stmt reply) (with_former s.formers.items None) s.restored
         → IsBook old.work.lines old.work.sessions old.number book
-        → TakesTurn g run old (record mid { book = book }) before n (Some number) turns.Answered
+        → TriesTurn g run old (record mid { book = book }) before n (Some number) turns.Answered
     read_answered mid cleared book is books =
         let facts = read_facts line.stmt reply finds.reads in
         let its : IsAnswered old.book book number s line reply s.stage s.formers.items s.restored =
@@ -205,7 +206,7 @@ module _ {D : Type 0} (g : Ghosts D) (run : Run) (old mid view : PrimaryView D) 
       → IsAnswered view.book book number x l reply (stage_after x.stage l.stmt reply) (with_former x.formers.items None) x.restored)
       → ((lines : List Line) (sessions : List SessionOn) (primary : ℕ) → IsBook lines sessions primary view.book
       → (is_stopped reply ≡ true) ⊎ NoneShowsDown view.book.answers.items → IsBook lines sessions primary book)
-      → TakesTurn g run old (record view { book = book }) before n (Some number) turns.Answered
+      → TriesTurn g run old (record view { book = book }) before n (Some number) turns.Answered
   read_inside held gone book answered books =
       read_answered g run old before between n number s line comes reply pages finds held gone view cleared_inside book
       (subst (λ (b : Book). IsAnswered b book number s line reply (stage_after s.stage line.stmt reply)

@@ -42,7 +42,8 @@ use Rattle.mp_desk.specs.Making.{HoldsPartOf}
 use Rattle.mp_desk.specs.Statements.{StaysQuiet}
 use Rattle.mp_desk.proofs.PutBackRows.{did_quiet, moves_quiet}
 use Rattle.mp_primary.specs.Primaries.{PrimaryView, PrimaryAgreesIn, PrimaryAgrees}
-use Rattle.mp_primary.specs.Turns.{TakesTurn, ComesTo}
+use Rattle.mp_primary.specs.Turns.{ComesTo}
+use Rattle.mp_primary.specs.Tries.{TriesTurn}
 use Rattle.mp_primary.specs.AtWork.{HasClearedDesk}
 use Rattle.mp_primary.specs.WriteTurns.{IsHeldUp, IsRightRefusal}
 use Rattle.mp_primary.proofs.LetGoQuietly.{moves_quiet_let_go}
@@ -108,7 +109,7 @@ module _ {D : Type 0} (g : Ghosts D) (run : Run) (old : PrimaryView D) (before n
             sessions = refused_opens.only;
             waits = refused_opens.waits;
             mirrors = record { not_below = at.not_below; not_above = at.not_above; undo_page = at.undo_page; idle = λ page. inl (cleared.idle r there page) };
-            media = subst (λ (k : ℕ). HoldsPartOf g old.work k media r) (sym up) (cleared.work.media r there);
+            media = subst (λ (k : ℕ). HoldsPartOf g old.work k old.number media r) (sym up) (cleared.work.media r there);
             bounds = refused_bounds;
             exact = ap (λ (o : TrxOpening). o.begins) st.extends.trx.same_opening ∙ was.exact;
             begun = was.begun;
@@ -120,7 +121,7 @@ module _ {D : Type 0} (g : Ghosts D) (run : Run) (old : PrimaryView D) (before n
     mid_comes : ComesTo g run mid n number refused line
     mid_comes = record {
       stands = record {
-        primary = record { book = books; names = comes.stands.primary.names; own = cleared.work.own; up = λ still_up. (cleared.work.log, cleared.empty, cleared.forced); down = inl up };
+        primary = record { book = books; names = comes.stands.primary.names; places = comes.stands.primary.places; own = cleared.work.own; up = λ still_up. (cleared.work.log, cleared.empty, cleared.forced) };
         desk = cleared.work.desk;
         agrees = (comes.stands.agrees.0, agrees comes.stands.agrees.0 comes.stands.agrees.1);
       };
@@ -135,7 +136,7 @@ module _ {D : Type 0} (g : Ghosts D) (run : Run) (old : PrimaryView D) (before n
         here : slice_get book.sessions.items number ≡ Some refused
         here = ap (λ (l : List Session). slice_get l number) sets.sessions ∙ set_here old.book.sessions.items number refused (slice_get_within old.book.sessions.items number s found)
 
-    turn_then : (new : PrimaryView D) (after : NodeView) (turn : Turn) → TakesTurn g run mid new n after (Some number) turn → TakesTurn g run old new before after (Some number) turn
+    turn_then : (new : PrimaryView D) (after : NodeView) (turn : Turn) → TriesTurn g run mid new n after (Some number) turn → TriesTurn g run old new before after (Some number) turn
     turn_then = then_turn g run old before n number s line comes quiet (Refused trx refusal) book sets mid refl agrees cleared.work.faults cleared.work.tells
 
   -- the same of what the primary became
@@ -146,10 +147,10 @@ module _ {D : Type 0} (g : Ghosts D) (run : Run) (old : PrimaryView D) (before n
     pub refused_comes : ComesTo g run (record cleared_view { book = book }) n number refused line
     refused_comes = subst (λ (v : PrimaryView D). ComesTo g run (record v { book = book }) n number refused line) (sym cleared.work.rest) (mid_comes cleared_view.desk cleared_view.media as_fields)
 
-    pub refused_turn : (new : PrimaryView D) (after : NodeView) (turn : Turn) → TakesTurn g run (record cleared_view { book = book }) new n after (Some number) turn → TakesTurn g run old new before after (Some number) turn
+    pub refused_turn : (new : PrimaryView D) (after : NodeView) (turn : Turn) → TriesTurn g run (record cleared_view { book = book }) new n after (Some number) turn → TriesTurn g run old new before after (Some number) turn
     refused_turn new after turn h =
         turn_then cleared_view.desk cleared_view.media as_fields new after turn
-        (subst (λ (v : PrimaryView D). TakesTurn g run (record v { book = book }) new n after (Some number) turn) cleared.work.rest h)
+        (subst (λ (v : PrimaryView D). TriesTurn g run (record v { book = book }) new n after (Some number) turn) cleared.work.rest h)
 
 -- what is supported is supported still when pages were let go
 pub refusal_on : {D : Type 0} (old : PrimaryView D) (between n : NodeView) (line : Line) (refusal : Refusal) → (r : CorePart) → part_in between.parts old.number ≡ Some r → Moves HasLetGo old.number between n → IsRightRefusal old between line refusal
@@ -201,5 +202,5 @@ module _ {D : Type 0} (g : Ghosts D) (run : Run) (old now : PrimaryView D) (befo
     pub inside_comes : ComesTo g run (record inside { book = book }) n number (record (held.tries.session) { stage = Refused trx refusal }) held.tries.line
     inside_comes = refused_comes g run old before n number held.tries.session held.tries.line held.tries.comes trx held.tries.stage refusal quiet_all supported_then book sets_old is_book inside cleared_inside
 
-    pub inside_turn : (new : PrimaryView D) (after : NodeView) (turn : Turn) → TakesTurn g run (record inside { book = book }) new n after (Some number) turn → TakesTurn g run old new before after (Some number) turn
+    pub inside_turn : (new : PrimaryView D) (after : NodeView) (turn : Turn) → TriesTurn g run (record inside { book = book }) new n after (Some number) turn → TriesTurn g run old new before after (Some number) turn
     inside_turn = refused_turn g run old before n number held.tries.session held.tries.line held.tries.comes trx held.tries.stage refusal quiet_all supported_then book sets_old is_book inside cleared_inside

@@ -1,8 +1,7 @@
 -- A session of a primary is at another stage, with the same transaction: the primary agrees with its part still.
-use Rattle.std.proofs.Common.{◌≡◌, ◌≢◌, ℕ, ◌+◌, ◌≤◌, ◌⊎◌, List, [], ◌∷◌, ◌++◌, length, drop, slice_get, slice_set, Option, None, Some, IfSome, refl, sym, ap, subst, ◌∙◌, inl, inr, arith}
+use Rattle.std.proofs.Common.{◌≡◌, ℕ, List, [], length, drop, slice_get, slice_set, Option, None, Some, IfSome, refl, sym, ap, subst, ◌∙◌, inl, inr, arith}
 use Rattle.std.proofs.lemmas.List.{append-nil}
 use Rattle.std.proofs.lemmas.Option.{slice_get_within}
-use Rattle.mp_machine.specs.Lists.{IsIn}
 use Rattle.mp_machine.specs.View.{part_in}
 use Rattle.mp_model.specs.Listed.{Listed}
 use Rattle.mp_model.specs.declared.ids.TrxName.{TrxName}
@@ -15,7 +14,6 @@ use Rattle.mp_core_trx.specs.declared.part.Begun.{Begun}
 use Rattle.mp_core.specs.declared.part.CorePart.{CorePart}
 use Rattle.mp_book.specs.declared.book.Book.{Book}
 use Rattle.mp_book.specs.declared.session.Session.{Session}
-use Rattle.mp_book.specs.declared.stage.Stage.{Stage}
 use Rattle.mp_book.specs.Stages.{next_line, trx_of_stage}
 use Rattle.mp_book.specs.Books.{IsBook, SetsSession}
 use Rattle.mp_outside.specs.declared.disks.Disk.{Ghosts}
@@ -99,7 +97,7 @@ module _ {D : Type 0} (g : Ghosts D) (run : Run) (pr : PrimaryView D) (n : NodeV
 
   pub restaged_stands : StandsWith g run mid n
   restaged_stands = record {
-    primary = record { book = is_book; names = stands.primary.names; own = stands.primary.own; up = stands.primary.up; down = stands.primary.down };
+    primary = record { book = is_book; names = stands.primary.names; places = stands.primary.places; own = stands.primary.own; up = stands.primary.up };
     desk = stands.desk;
     agrees = (stands.agrees.0, restaged_agrees stands.agrees.0 stands.agrees.1);
   }
@@ -111,7 +109,7 @@ module _ {D : Type 0} (g : Ghosts D) (run : Run) (pr : PrimaryView D) (n : NodeV
     work = refl;
     did = moves_none pr.number (λ q r. Did q r no_trace) (λ q. did_looked q q (looked_none q)) n;
     goes_on = restaged_agrees;
-    answers = ap (λ (l : Listed Answer). l.items) sets.answers;
+    answers = sets.answers;
     others = λ other ne. ap (λ (l : List Session). slice_get l other) sets.sessions ∙ set_else pr.book.sessions.items number other t ne;
     same = λ x there.
         let same : x ≡ s = one_of (slice_get pr.book.sessions.items number) s x found there in (

@@ -1,13 +1,12 @@
 -- A turn before which room was made, or at whose begin its transaction was left, is a turn.
 use mathlib.Core.Logic.{dite}
 use native.Mathlib.Decide.{ℕ_discrete}
-use Rattle.std.proofs.Common.{◌≡◌, ◌≢◌, ℕ, List, slice_get, slice_set, Option, None, Some, IfSome, Result, Ok, Err, IfOk, OnErr, refl, sym, ap, subst, ◌∙◌}
+use Rattle.std.proofs.Common.{◌≡◌, ◌≢◌, ℕ, List, slice_get, Option, Some, Result, Ok, Err, IfOk, OnErr, refl, sym, ap, subst, ◌∙◌}
 use Rattle.mp_model.specs.declared.waiting.Turn.{Turn}
 use Rattle.mp_script.specs.declared.statements.SessionOn.{SessionOn}
 use Rattle.mp_script.specs.declared.statements.Line.{Line}
 use Rattle.mp_script.specs.Transactions.{trx_in_lines}
 use Rattle.mp_core_trx.specs.declared.part.Begun.{Begun}
-use Rattle.mp_core.specs.declared.part.CorePart.{CorePart}
 use Rattle.mp_book.specs.declared.book.Book.{Book}
 use Rattle.mp_book.specs.declared.session.Session.{Session}
 use Rattle.mp_book.specs.declared.stage.Stage.{Stage}
@@ -24,9 +23,10 @@ use Rattle.mp_supports.specs.Work.{Work}
 use Rattle.mp_supports.specs.Kept.{Entry}
 use Rattle.mp_supports.specs.Agreement.{RefusalSupported}
 use Rattle.mp_primary.specs.Primaries.{PrimaryView, PrimaryAgreesIn, StandsWith}
-use Rattle.mp_primary.specs.Turns.{IsSessionOf, IsInTurns, MayTakeTurn, TakesTurn, ComesTo}
+use Rattle.mp_primary.specs.Downs.{IsDownAsTold}
+use Rattle.mp_primary.specs.Turns.{IsSessionOf, IsInTurns, MayTakeTurn, ComesTo, TakesTurn}
 use Rattle.mp_primary.proofs.StillInTurns.{stage_in, found_in, set_may}
-use Rattle.mp_primary.proofs.SameSessions.{StandsAsBefore, same_in, same_stands, next_on, same_turn}
+use Rattle.mp_primary.proofs.SameSessions.{StandsAsBefore, same_in, same_stands, next_on, same_taken}
 
 -- room was made
 pub roomed : (work : Work) (old book : Book) (number : ℕ) (s : Session) → slice_get old.sessions.items number ≡ Some s → (is : HasSameSession old book number s) → book.answers.items ≡ old.answers.items → StandsAsBefore work old book number s is.after
@@ -107,7 +107,11 @@ module _ {D : Type 0} (g : Ghosts D) (run : Run) (inside old : PrimaryView D) (v
   pub roomed_turn : (new : PrimaryView D) (now : NodeView) (turn : Turn) → TakesTurn g run mid new n now (Some number) turn → TakesTurn g run old new n now (Some number) turn
   roomed_turn new now turn h =
       subst (λ (v : PrimaryView D). TakesTurn g run v new n now (Some number) turn) view
-      (same_turn g inside book number s now_session as_before run new n now turn h)
+      (same_taken g inside book number s now_session as_before run new n now turn h)
+
+  -- its own word is as it was
+  pub roomed_told : IsDownAsTold old n → IsDownAsTold mid n
+  roomed_told told = subst (λ (v : PrimaryView D). IsDownAsTold v n) (sym view) told
 
   -- nothing changed but room
   pub roomed_stays : (new : PrimaryView D) (now : NodeView) → (now ≡ n) × (new ≡ mid) → (now ≡ n) × StandsWith g run new now

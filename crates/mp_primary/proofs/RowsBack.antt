@@ -1,5 +1,5 @@
 -- A primary agrees with its part still, where rows of a session's transaction were put back and counted.
-use Rattle.std.proofs.Common.{◌≡◌, ◌≢◌, ℕ, zero, suc, ◌+◌, ◌-◌, ◌<◌, ◌≤◌, ◌⊎◌, false, List, [], ◌∷◌, ◌++◌, length, drop, slice_get, slice_set, Option, None, Some, IfSome, refl, sym, ap, subst, ◌∙◌, inl, inr, ⊎_elim, arith, length-append}
+use Rattle.std.proofs.Common.{◌≡◌, ◌≢◌, ℕ, ◌+◌, ◌≤◌, ◌⊎◌, false, List, [], ◌∷◌, ◌++◌, length, drop, slice_get, slice_set, Option, None, Some, IfSome, refl, sym, ap, subst, ◌∙◌, inl, inr, ⊎_elim, arith, length-append}
 use Rattle.std.proofs.lemmas.List.{length-drop}
 use Rattle.std.proofs.lemmas.Option.{slice_get_within}
 use Rattle.mp_machine.specs.Lists.{IsIn}
@@ -10,7 +10,6 @@ use Rattle.mp_model.specs.declared.ids.TrxName.{TrxName}
 use Rattle.mp_model.specs.declared.replies.Answer.{Answer}
 use Rattle.mp_script.specs.declared.statements.Line.{Line}
 use Rattle.mp_script.specs.declared.statements.SessionOn.{SessionOn}
-use Rattle.mp_script.specs.BeginNames.{begin_names}
 use Rattle.mp_script.specs.Transactions.{trx_in_lines}
 use Rattle.mp_cells.specs.declared.records.Mtr.{Mtr}
 use Rattle.mp_cells.specs.declared.rows.Row.{Row}
@@ -24,14 +23,14 @@ use Rattle.mp_core_pages.specs.declared.page_lock.Held.TheVariants.{No}
 use Rattle.mp_core_pages.specs.declared.part.Placed.{Placed}
 use Rattle.mp_core_pages.specs.PageParts.{held_at}
 use Rattle.mp_core.specs.declared.part.CorePart.{CorePart}
-use Rattle.mp_core.specs.OwnMtrs.{row_restored_by, TrxMtr, trx_mtrs}
+use Rattle.mp_core.specs.OwnMtrs.{trx_mtrs}
 use Rattle.mp_book.specs.declared.book.Book.{Book}
 use Rattle.mp_book.specs.declared.session.Session.{Session}
 use Rattle.mp_book.specs.declared.stage.Stage.{Stage}
 use Rattle.mp_book.specs.declared.stage.Stage.TheVariants.{Closed, Open, Refused, Leaving, Skipping, Outside}
 use Rattle.mp_book.specs.Stages.{next_line, trx_of_stage}
 use Rattle.mp_book.specs.Answered.{execution_above}
-use Rattle.mp_book.specs.Books.{TrxStands, StageStands, SessionStands, IsBook, SetsSession, IsGoingBack}
+use Rattle.mp_book.specs.Books.{TrxStands, StageStands, SessionStands, SetsSession, IsGoingBack}
 use Rattle.mp_book.proofs.Changes.{book_set}
 use Rattle.mp_outside.specs.declared.disks.Disk.{Ghosts}
 use Rattle.mp_outside.specs.Faults.{Rose}
@@ -42,7 +41,7 @@ use Rattle.mp_buffer_fusion.proofs.Visiting.{one_part}
 use Rattle.mp_supports.specs.Work.{Work, name_of}
 use Rattle.mp_supports.specs.Supports.{no_trace, SupportsWaits}
 use Rattle.mp_supports.specs.Kept.{Entry, Did}
-use Rattle.mp_supports.specs.Agreement.{IsOpenAs, RefusalSupported, Opens, StandAtNumbers, Mirrors, Bounds, rows_left, rows_left_by}
+use Rattle.mp_supports.specs.Agreement.{IsOpenAs, RefusalSupported, Opens, StandAtNumbers, Bounds, rows_left, rows_left_by}
 use Rattle.mp_supports.proofs.Extending.{begun_in}
 use Rattle.mp_supports.proofs.Keeping.{kept_quiet}
 use Rattle.mp_supports.proofs.Places.{in_set, set_in, still_in, at_place, sum_set}
@@ -50,11 +49,10 @@ use Rattle.mp_supports.proofs.Unchanged.{refusal_kept, waits_kept}
 use Rattle.mp_desk.specs.declared.desk.Desk.{Desk}
 use Rattle.mp_desk.specs.declared.media.Media.{Media}
 use Rattle.mp_desk.specs.Desks.{Moves, IsAtDesk}
-use Rattle.mp_desk.specs.Making.{IsOpenLog, HoldsPartOf, MediaAgree}
+use Rattle.mp_desk.specs.Making.{IsOpenLog, MediaAgree}
 use Rattle.mp_desk.specs.Writes.{PutsBackRows}
 use Rattle.mp_desk.proofs.Moving.{moves_as}
 use Rattle.mp_primary.specs.Primaries.{PrimaryView, IsPrimary, PrimaryAgreesIn, PrimaryAgrees, StandsWith}
-use Rattle.mp_primary.specs.Turns.{IsSessionOf}
 use Rattle.mp_primary.specs.GoingOn.{GoesBackOf, GoesOnQuietly}
 use Rattle.mp_primary.proofs.OpenSessions.{one_of}
 
@@ -226,9 +224,9 @@ module _ {D : Type 0} (g : Ghosts D) (run : Run) (old : PrimaryView D) (before n
     book = book_set old.work.lines old.work.sessions old.number old.book book number (record s { restored = k }) stands.primary.book sets
         (counted_session old.work.lines old.work.sessions old.number old.book.answers.items number s (stands.primary.book.each number s back.found) k back.back within);
     names = stands.primary.names;
+    places = stands.primary.places;
     own = own;
     up = λ z. let o = log_open z in (o.0, o.1, o.2);
-    down = ⊎_elim (λ z. inl z) (λ f. inr (f.0, λ z. f.1 (f.0 ∙ z))) fell;
   }
 
   agrees : (entries : List Entry) (r : CorePart) → PrimaryAgrees g old entries q → part_in n.parts old.number ≡ Some r → PutsBackRows trx.id s.formers.items s.restored k q r → PrimaryAgrees g new entries r
@@ -267,7 +265,7 @@ module _ {D : Type 0} (g : Ghosts D) (run : Run) (old : PrimaryView D) (before n
     work = refl;
     did = moves_as old.number (PutsBackRows trx.id s.formers.items s.restored k) (λ x y. Did x y no_trace) (rows_did trx.id s.formers.items s.restored k) before n rows;
     goes_on = agrees_in;
-    answers = ap (λ (l : Listed Answer). l.items) sets.answers;
+    answers = sets.answers;
     others = λ other ne. ap (λ (l : List Session). slice_get l other) sets.sessions ∙ set_else old.book.sessions.items number other (record s { restored = k }) ne;
     same = λ x there.
         let same : x ≡ s = one_of (slice_get old.book.sessions.items number) s x back.found there in (

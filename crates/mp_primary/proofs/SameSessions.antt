@@ -1,9 +1,8 @@
 -- A turn before which a session was changed, but neither its next statement nor its transaction, is a turn.
-use Rattle.std.proofs.Common.{◌≡◌, ◌≢◌, ℕ, ◌+◌, ◌<◌, ◌≤◌, ◌==◌, ◌&&◌, ◌⊎◌, not, Bool, true, false, List, [], ◌∷◌, ◌++◌, length, drop, slice_get, slice_set, Option, None, Some, IfSome, refl, sym, ap, subst, ◌∙◌, inl, inr, arith, eq-eqb}
+use Rattle.std.proofs.Common.{◌≡◌, ◌≢◌, ℕ, ◌==◌, ◌&&◌, not, Bool, true, false, List, [], ◌∷◌, ◌++◌, length, drop, slice_get, slice_set, Option, None, Some, IfSome, refl, sym, ap, subst, ◌∙◌, inl, inr, arith, eq-eqb, ⊎_elim}
 use mathlib.Core.Bool.{false≢true}
 use Rattle.std.proofs.lemmas.List.{append-nil}
 use Rattle.std.proofs.lemmas.Option.{slice_get_within}
-use Rattle.mp_machine.specs.View.{part_in}
 use Rattle.mp_model.specs.declared.ids.TrxId.{TrxId}
 use Rattle.mp_model.specs.declared.ids.TrxName.{TrxName}
 use Rattle.mp_model.specs.declared.replies.Answer.{Answer}
@@ -36,7 +35,10 @@ use Rattle.mp_supports.proofs.Places.{at_place}
 use Rattle.mp_supports.proofs.BoundSteps.{bounds_answered}
 use Rattle.mp_primary.specs.Primaries.{PrimaryView, AreSessions, AreWaitsSupported, PrimaryAgreesIn, PrimaryAgrees, StandsWith}
 use Rattle.mp_primary.specs.Holders.{may_hold_in, fits_book, MetStranger}
-use Rattle.mp_primary.specs.Turns.{IsSessionOf, Adds, AddsAnswer, EndsUnprinted, AddsNext, GoesOnBy, TakesTurn, has_nothing_left, no_task_in, HasNoStatement, NamesWait, IfWaiting, WaitsFor}
+use Rattle.mp_primary.specs.Turns.{IsSessionOf, AddsNext, HasWaits, has_nothing_left, no_task_in, HasNoStatement, NamesWait, IfWaiting, WaitsFor}
+use Rattle.mp_primary.specs.Turns.{WaitsStill, WentDownIn, TakesTurn}
+use Rattle.mp_primary.specs.Tries.{TriesTurn}
+use Rattle.mp_primary.proofs.IfWaits.{on_if_waits, waits_map}
 use Rattle.mp_primary.proofs.OpenSessions.{one_of, sessions_set, waits_set, opens_set}
 
 -- The book has another session at the number, with the same next statement, waits and transaction
@@ -114,7 +116,7 @@ module _ {D : Type 0} (g : Ghosts D) (old : PrimaryView D) (book : Book) (number
 
   pub same_stands : (run : Run) (n : NodeView) → IsBook old.work.lines old.work.sessions old.number book → StandsWith g run old n → StandsWith g run mid n
   same_stands run n is_book stands = record {
-    primary = record { book = is_book; names = stands.primary.names; own = stands.primary.own; up = stands.primary.up; down = stands.primary.down };
+    primary = record { book = is_book; names = stands.primary.names; places = stands.primary.places; own = stands.primary.own; up = stands.primary.up };
     desk = stands.desk;
     agrees = (stands.agrees.0, same_in n stands.agrees.0 stands.agrees.1);
   }
@@ -134,7 +136,7 @@ module _ {D : Type 0} (g : Ghosts D) (old : PrimaryView D) (book : Book) (number
       answer = h.answer;
       of_session = h.of_session;
       index = h.index;
-      waits = h.waits ∙ ap (λ (v : Session). v.waits.items) (one_of (slice_get book.sessions.items number) after h.session here h.next.found) ∙ is.waits;
+      waits = subst (λ (l : List TrxName). HasWaits l h.answer) (ap (λ (v : Session). v.waits.items) (one_of (slice_get book.sessions.items number) after h.session here h.next.found) ∙ is.waits) h.waits;
       entry = h.entry;
       has = h.has;
       one = h.one;
@@ -203,8 +205,8 @@ module _ {D : Type 0} (g : Ghosts D) (old : PrimaryView D) (book : Book) (number
     none_back : HasNoStatement mid (Some number) → HasNoStatement old (Some number)
     none_back none = λ x there. ap (λ (v : Session). next_line v) (one_of (slice_get old.book.sessions.items number) s x is.found there) ∙ sym is.next ∙ none after here
 
-    pub same_turn : (turn : Turn) → TakesTurn g run mid new before node_now (Some number) turn → TakesTurn g run old new before node_now (Some number) turn
-    same_turn turn h = record {
+    pub same_turn : book.answers ≡ old.book.answers → (turn : Turn) → TriesTurn g run mid new before node_now (Some number) turn → TriesTurn g run old new before node_now (Some number) turn
+    same_turn same_answers turn h = record {
       stands = h.stands;
       number = h.number;
       work = h.work;
@@ -213,6 +215,8 @@ module _ {D : Type 0} (g : Ghosts D) (old : PrimaryView D) (book : Book) (number
       others = λ other ne. h.others other ne ∙ elsewhere other (λ same. ne (ap (λ (k : ℕ). Some k) (sym same)));
       named = named_back turn h.named;
       cause = cause_back turn h.cause;
+      up = h.up;
+      answers = on_if_waits turn new.book.answers book.answers old.book.answers same_answers h.answers;
       down = h.down;
       faults = h.faults;
       tells = h.tells;
@@ -223,4 +227,55 @@ module _ {D : Type 0} (g : Ghosts D) (old : PrimaryView D) (book : Book) (number
       stops = λ a more. h.stops a (more ∙ ap (λ (l : List Answer). l ++ a ∷ []) (sym is.answers));
       done = ((λ e. let x = h.done.0 e in (x.0, sym left_same_too ∙ x.1)), (λ up nothing. h.done.1 up (left_same_too ∙ nothing)));
       stopped = ((λ by e. let x = h.stopped.0 by e in (x.0, x.1, none_back x.2)), (λ down none. h.stopped.1 down (none_over none)));
+    }
+
+  -- whom a wait needs, and what it found of them, is told of the one as of the other
+  module _ (run : Run) (new : PrimaryView D) (before node_now : NodeView) where
+    still_back : (cause : Cause) → WaitsStill mid number before node_now cause → WaitsStill old number before node_now cause
+    still_back cause h = record {
+      at = h.at;
+      waits = cause_back run new before h.at (turns.Waiting cause) h.waits;
+      found = record { went = h.found.went; each = h.found.each };
+    }
+
+    fell_back : WentDownIn g mid new before node_now (Some number) → WentDownIn g old new before node_now (Some number)
+    fell_back (inl here) = inl here
+    fell_back (inr h) =
+        let w = h.2 in
+        let same : h.0 ≡ number = its_number h.0 h.1 in
+        inr (
+          number,
+          refl,
+          record {
+            cause = w.cause;
+            at = w.at;
+            waits = cause_back run new before w.at (turns.Waiting w.cause) (subst (λ (k : ℕ). WaitsFor mid k before w.at w.cause) same w.waits);
+            found = record { of = w.found.of; another = w.found.another; needed = w.found.needed; loaded = w.found.loaded; some = w.found.some; apart = w.found.apart };
+          },
+        )
+      where
+        its_number : (k : ℕ) → Some number ≡ Some k → k ≡ number
+        its_number k e = cc
+
+    pub same_taken : (turn : Turn) → TakesTurn g run mid new before node_now (Some number) turn → TakesTurn g run old new before node_now (Some number) turn
+    same_taken turn h = record {
+      stands = h.stands;
+      number = h.number;
+      work = h.work;
+      went = h.went;
+      goes_on = λ entries agrees. let x = h.goes_on entries (same_in before entries agrees) in record { more = x.more; agrees = x.agrees; adds = adds_back run new before node_now turn x.more x.adds; later = x.later };
+      others = λ other ne. h.others other ne ∙ elsewhere other (λ same. ne (ap (λ (k : ℕ). Some k) (sym same)));
+      named = named_back run new before node_now turn h.named;
+      cause = waits_map turn (WaitsStill mid number before node_now) (WaitsStill old number before node_now) still_back h.cause;
+      down = ⊎_elim (λ same. inl same) (λ fell. inr (fell.0, fell_back fell.1)) h.down;
+      told = h.told;
+      faults = h.faults;
+      tells = h.tells;
+      may_go_on = h.may_go_on;
+      begins = λ a view more. h.begins a view (more ∙ ap (λ (l : List Answer). l ++ a ∷ []) (sym is.answers));
+      draws = λ a cts more. h.draws a cts (more ∙ ap (λ (l : List Answer). l ++ a ∷ []) (sym is.answers));
+      skips = λ a more. h.skips a (more ∙ ap (λ (l : List Answer). l ++ a ∷ []) (sym is.answers));
+      stops = λ a more. h.stops a (more ∙ ap (λ (l : List Answer). l ++ a ∷ []) (sym is.answers));
+      done = ((λ e. let x = h.done.0 e in (x.0, sym (left_same_too run new before node_now) ∙ x.1)), (λ up nothing. h.done.1 up (left_same_too run new before node_now ∙ nothing)));
+      stopped = ((λ by e. let x = h.stopped.0 by e in (x.0, x.1, none_back run new before node_now x.2)), (λ down none. h.stopped.1 down (none_over run new before node_now none)));
     }

@@ -41,7 +41,8 @@ use Rattle.mp_desk.specs.Statements.{StaysQuiet}
 use Rattle.mp_desk.proofs.MediaMoved.{not_zero}
 use Rattle.mp_desk.proofs.Moving.{moves_as}
 use Rattle.mp_primary.specs.Primaries.{PrimaryView, AreSessions, PrimaryAgrees}
-use Rattle.mp_primary.specs.Turns.{TakesTurn, ComesTo}
+use Rattle.mp_primary.specs.Turns.{ComesTo}
+use Rattle.mp_primary.specs.Tries.{TriesTurn}
 use Rattle.mp_primary.specs.AtWork.{HasGoneDown, LeavesAtMostOne, MayStopWith}
 use Rattle.mp_primary.proofs.OpenSessions.{sessions_set}
 use Rattle.mp_primary.proofs.QuietSides.{drew_more}
@@ -182,7 +183,7 @@ module _ {D : Type 0} (g : Ghosts D) (run : Run) (old : PrimaryView D) (before n
   -- the statement is answered `stopped`
   pub stopped_down : IsAnswered old.book book number s line (Stopped old.number) s.stage (with_former s.formers.items former) s.restored
       → IsBook old.work.lines old.work.sessions old.number book
-      → TakesTurn g run old (record mid { book = book }) before n (Some number) turns.Answered
+      → TriesTurn g run old (record mid { book = book }) before n (Some number) turns.Answered
   stopped_down is books =
       answered_down g run old before n number s line comes old.book book mid books trace gone (Stopped old.number) s.stage
       (with_former s.formers.items former) s.restored is
@@ -251,7 +252,7 @@ module _ {D : Type 0} (g : Ghosts D) (run : Run) (old view now : PrimaryView D) 
       (with_former x.formers.items former) x.restored)
       → ((lines : List Line) (sessions : List SessionOn) (primary : ℕ) → IsBook lines sessions primary view.book
       → (is_stopped (Stopped view.down) ≡ true) ⊎ NoneShowsDown view.book.answers.items → IsBook lines sessions primary book)
-      → MayStopWith old line former before n trace → TakesTurn g run old (record view { book = book }) before n (Some number) turns.Answered
+      → MayStopWith old line former before n trace → TriesTurn g run old (record view { book = book }) before n (Some number) turns.Answered
   stop_here former book answered books may =
       stopped_down g run old before n number s line comes former trace may view gone_inside book
       (subst (λ (v : PrimaryView D). IsAnswered v.book book number s line (Stopped v.down) s.stage

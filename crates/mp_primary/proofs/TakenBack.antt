@@ -1,5 +1,5 @@
 -- A turn in which rows are put back first: it waits, stops, or ends.
-use Rattle.std.proofs.Common.{◌≡◌, ◌≢◌, ℕ, ◌+◌, ◌<◌, ◌≤◌, ◌⊎◌, true, false, List, [], slice_get, get_or, Option, None, Some, IfSome, refl, sym, ap, subst, ◌∙◌, inl, inr, ⊎_elim, arith}
+use Rattle.std.proofs.Common.{◌≡◌, ◌≢◌, ℕ, ◌<◌, ◌⊎◌, true, false, List, slice_get, get_or, Option, None, Some, IfSome, refl, sym, ap, subst, ◌∙◌, inl, inr, ⊎_elim, arith}
 use Rattle.std.proofs.lemmas.Option.{slice_get_within, slice_get-get_or}
 use Rattle.mp_machine.specs.View.{part_in}
 use Rattle.mp_core.specs.declared.part.CorePart.{CorePart}
@@ -34,12 +34,13 @@ use Rattle.mp_desk.specs.Desks.{MetWait}
 use Rattle.mp_desk.proofs.BackSteps.{rose_later}
 use Rattle.mp_desk.proofs.Moving.{looked_none, moves_none, goes_none}
 use Rattle.mp_primary.specs.Primaries.{PrimaryView, StandsWith}
-use Rattle.mp_primary.specs.Turns.{IsSessionOf, IsInTurns, MayTakeTurn, TakesTurn, ComesTo, IsTakenBack, has_nothing_left, no_task_in, HasNoStatement}
+use Rattle.mp_primary.specs.Turns.{IsSessionOf, IsInTurns, MayTakeTurn, ComesTo, IsTakenBack, has_nothing_left, no_task_in, HasNoStatement}
+use Rattle.mp_primary.specs.Tries.{TriesTurn}
 use Rattle.mp_primary.specs.GoingOn.{CountsBack, ClosesSession, LeavesRows, GoesOnQuietly}
 use Rattle.mp_primary.proofs.StillInTurns.{closed_in, open_in, refused_in, leaving_in, skipping_in}
 use Rattle.mp_primary.proofs.BackEnds.{busy_by, counted_there, counted_may, counted_room}
 use Rattle.mp_primary.proofs.OpenSessions.{one_of}
-use Rattle.mp_primary.proofs.PlainTurns.{stopped_inside}
+use Rattle.mp_primary.proofs.PlainTurns.{stopped_inside, to_stop}
 use Rattle.mp_primary.proofs.QuietTurns.{stopped_turn}
 use Rattle.mp_primary.proofs.QuietlyOn.{then_turn, waiting_turn}
 use Rattle.mp_primary.proofs.BackTurns.{stood_at, unprinted_turn}
@@ -65,10 +66,10 @@ module _ {D : Type 0} (g : Ghosts D) (run : Run) (old mid : PrimaryView D) (n n1
   busy : has_nothing_left old (Some number) ≡ false
   busy = ap no_task_in comes.next.found ∙ ap (λ (o : Option Line). is_no_task (task_by o s.stage)) comes.next.next
 
-  pub then_answered : (new : PrimaryView D) (after : NodeView) → TakesTurn g run mid new n1 after (Some number) turns.Answered → TakesTurn g run old new n after (Some number) turns.Answered
+  pub then_answered : (new : PrimaryView D) (after : NodeView) → TriesTurn g run mid new n1 after (Some number) turns.Answered → TriesTurn g run old new n after (Some number) turns.Answered
   then_answered new after h = then_turn g run old mid n n1 number s comes.next.found quiet comes.stands.desk.part new after turns.Answered h busy answered_not_done tt
 
-  pub then_waits : (wait : NotYet) → (mid.down ≡ 0) × MetWait old.number n n1 wait → TakesTurn g run old mid n n1 (Some number) (turns.Waiting (Word wait))
+  pub then_waits : (wait : NotYet) → (mid.down ≡ 0) × MetWait old.number n n1 wait → TriesTurn g run old mid n n1 (Some number) (turns.Waiting (Word wait))
   then_waits wait met = waiting_turn g run old mid n n1 number s comes.next.found quiet comes.stands.desk.part met.0 busy wait met.1 (counted_may old mid number s comes.next.found counts comes.inside)
 
   -- what the answer of a primary that went down asks
@@ -82,8 +83,8 @@ module _ {D : Type 0} (g : Ghosts D) (run : Run) (old mid : PrimaryView D) (n n1
     -- it is answered so
     pub stops : inside.down ≡ by → mid.down ≢ 0 → (book : Book) → ((x : Session) (l : Line) → IsNext inside.book number x l → IsAnswered inside.book book number x l (Stopped by) (stage_after x.stage l.stmt (Stopped by)) (with_former x.formers.items None) x.restored)
         → ((lines : List Line) (sessions : List SessionOn) (primary : ℕ) → IsBook lines sessions primary inside.book → (is_stopped (Stopped by) ≡ true) ⊎ NoneShowsDown inside.book.answers.items → IsBook lines sessions primary book)
-        → TakesTurn g run old (record inside { book = book }) n n1 (Some number) turns.Answered
-    stops is some book answered books = then_answered (record inside { book = book }) n1 (stopped_inside g inside mid view run book n1 number counted line comes_counted by is some answered books)
+        → TriesTurn g run old (record inside { book = book }) n n1 (Some number) turns.Answered
+    stops is some book answered books = then_answered (record inside { book = book }) n1 (stopped_inside g inside mid view run book n1 number counted line (to_stop g run mid n1 number counted line comes_counted) by is some answered books)
 
 -- a session whose rows are put back in a turn has a transaction
 pub no_trx_taken : (stage : Stage) → IsTakenBack stage → trx_of_stage stage ≡ None → ⊥
@@ -112,13 +113,13 @@ module _ {D : Type 0} (g : Ghosts D) (run : Run) (old mid : PrimaryView D) (n n1
       let same : x ≡ t.0 = one_of (slice_get mid.book.sessions.items number) t.0 x t.1 at in
       ap (λ (v : Session). next_line v) same ∙ t.2 ∙ unprinted_none (next_line s) s.stage task
 
-  pub leaving_waits : (wait : NotYet) → (mid.down ≡ 0) × MetWait old.number n n1 wait → MayTakeTurn mid number → TakesTurn g run old mid n n1 (Some number) (turns.Waiting (Word wait))
+  pub leaving_waits : (wait : NotYet) → (mid.down ≡ 0) × MetWait old.number n n1 wait → MayTakeTurn mid number → TriesTurn g run old mid n n1 (Some number) (turns.Waiting (Word wait))
   leaving_waits wait met may = waiting_turn g run old mid n n1 number s found quiet stands.desk.part met.0 busy_leaving wait met.1 may
 
-  pub leaving_stops : (by : ℕ) → by ≡ mid.down → mid.down ≢ 0 → MayTakeTurn mid number → TakesTurn g run old mid n n1 (Some number) (turns.Stopped by)
+  pub leaving_stops : (by : ℕ) → by ≡ mid.down → mid.down ≢ 0 → MayTakeTurn mid number → TriesTurn g run old mid n n1 (Some number) (turns.Stopped by)
   leaving_stops by is down may = then_turn g run old mid n n1 number s found quiet stands.desk.part mid n1 (turns.Stopped by) (stopped_turn g run mid n1 quiet.stands (Some number) may by is (λ z. down (sym is ∙ z)) none_left) busy_leaving (stopped_not_done by) tt
 
-  pub leaving_ends : (new : PrimaryView D) (after : NodeView) → TakesTurn g run mid new n1 after (Some number) turns.Answered → TakesTurn g run old new n after (Some number) turns.Answered
+  pub leaving_ends : (new : PrimaryView D) (after : NodeView) → TriesTurn g run mid new n1 after (Some number) turns.Answered → TriesTurn g run old new n after (Some number) turns.Answered
   leaving_ends new after h = then_turn g run old mid n n1 number s found quiet stands.desk.part new after turns.Answered h busy_leaving answered_not_done tt
 
 -- a session as it is read
@@ -186,13 +187,13 @@ module _ {D : Type 0} (g : Ghosts D) (run : Run) (pr : PrimaryView D) (n : NodeV
       go (Outside b) at left has = absurd cc
 
   -- what was skipped ends
-  pub skipped_ends : s.stage ≡ Skipping → (new : PrimaryView D) → new ≡ record pr { book = new.book } → ClosesSession pr.book new.book number s → IsBook pr.work.lines pr.work.sessions pr.number new.book → TakesTurn g run pr new n n (Some number) turns.Answered
+  pub skipped_ends : s.stage ≡ Skipping → (new : PrimaryView D) → new ≡ record pr { book = new.book } → ClosesSession pr.book new.book number s → IsBook pr.work.lines pr.work.sessions pr.number new.book → TriesTurn g run pr new n n (Some number) turns.Answered
   skipped_ends skipping new rest closes is_book =
       let same : trx_of_stage closes.after.stage ≡ trx_of_stage s.stage = ap (λ (v : Session). trx_of_stage v.stage) closes.rest ∙ sym (ap trx_of_stage skipping) in
       let stage_is : closes.after.stage ≡ Closed = ap (λ (v : Session). v.stage) closes.rest in
       let rest_is : closes.after ≡ record s { stage = closes.after.stage; waits = closes.after.waits } = closes.rest ∙ ap (λ (t : Stage). record s { stage = t; waits = closes.after.waits }) (sym stage_is) in
       let refused : (q : CorePart) → part_in n.parts pr.number ≡ Some q → RefusalSupported pr.work q 0 closes.after.stage (next_line closes.after) = λ q has. subst (λ (t : Stage). RefusalSupported pr.work q 0 t (next_line closes.after)) (sym stage_is) tt in
-      subst (λ (v : PrimaryView D). TakesTurn g run pr v n n (Some number) turns.Answered) (sym rest)
+      subst (λ (v : PrimaryView D). TriesTurn g run pr v n n (Some number) turns.Answered) (sym rest)
       (unprinted_turn g run pr n n number s found (unprinted_none (next_line s) s.stage task) up (busy_by pr number s found task) new.book closes
       (restaged_stands g run pr n number s stands found new.book closes.after closes.sets rest_is same (inl closes.waits) refused is_book)
       (goes_none pr.number n)

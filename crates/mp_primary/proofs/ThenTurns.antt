@@ -46,7 +46,9 @@ use Rattle.mp_desk.proofs.Moving.{moves_as, goes_both}
 use Rattle.mp_desk.proofs.TrxStepped.{DrewTheSame, knows_less_before, tso_same, holds_all}
 use Rattle.mp_primary.specs.Primaries.{PrimaryView, PrimaryAgreesIn}
 use Rattle.mp_primary.specs.Holders.{may_hold_in, fits_book, MetStranger}
-use Rattle.mp_primary.specs.Turns.{IsSessionOf, Adds, AddsNext, IsLeftAfter, TakesTurn, ComesTo, has_nothing_left, no_task_in, HasNoStatement, NamesWait, IfWaiting, WaitsFor}
+use Rattle.mp_primary.specs.Turns.{IsSessionOf, Adds, AddsNext, HasWaits, IsLeftAfter, ComesTo, has_nothing_left, no_task_in, HasNoStatement, NamesWait, IfWaiting, WaitsFor}
+use Rattle.mp_primary.specs.Tries.{TriesTurn}
+use Rattle.mp_primary.proofs.IfWaits.{on_if_waits}
 use Rattle.mp_primary.proofs.OpenSessions.{one_of}
 
 module _ {D : Type 0} (g : Ghosts D) (run : Run) (old : PrimaryView D) (before between : NodeView) (number : ℕ) (s : Session) (line : Line) (comes : ComesTo g run old before number s line) (moves : Moves StaysQuiet old.number before between)
@@ -118,7 +120,7 @@ module _ {D : Type 0} (g : Ghosts D) (run : Run) (old : PrimaryView D) (before b
         answer = h.answer;
         of_session = h.of_session;
         index = h.index;
-        waits = h.waits ∙ ap (λ (v : Session). v.waits.items) (one_of (slice_get book.sessions.items number) later h.session here h.next.found);
+        waits = subst (λ (l : List TrxName). HasWaits l h.answer) (ap (λ (v : Session). v.waits.items) (one_of (slice_get book.sessions.items number) later h.session here h.next.found)) h.waits;
         entry = h.entry;
         has = h.has;
         one = h.one;
@@ -207,7 +209,7 @@ module _ {D : Type 0} (g : Ghosts D) (run : Run) (old : PrimaryView D) (before b
       view_back view h all = h (holds_all old.number before between comes.stands.desk.part drew all) ∙ tso_same old.number before between comes.stands.desk.part drew
 
       turn_of_mid : ((entries : List Entry) → PrimaryAgreesIn g old entries before → PrimaryAgreesIn g mid entries between) → g.faults old.media.log.disk ≤ g.faults media.log.disk → g.tells media.log.disk ≡ g.tells old.media.log.disk
-          → (turn : Turn) → TakesTurn g run mid new between after (Some number) turn → TakesTurn g run old new before after (Some number) turn
+          → (turn : Turn) → TriesTurn g run mid new between after (Some number) turn → TriesTurn g run old new before after (Some number) turn
       turn_of_mid agrees faults tells turn h = record {
         stands = h.stands;
         number = h.number;
@@ -217,6 +219,8 @@ module _ {D : Type 0} (g : Ghosts D) (run : Run) (old : PrimaryView D) (before b
         others = λ other ne. h.others other ne ∙ elsewhere other (λ same. ne (ap (λ (k : ℕ). Some k) (sym same)));
         named = named_back turn h.named;
         cause = cause_back turn h.cause;
+        up = h.up;
+        answers = on_if_waits turn new.book.answers book.answers old.book.answers sets.answers h.answers;
         down = down_back faults h.down;
         faults = let more = h.faults in omega (arith, faults, more);
         tells = h.tells ∙ tells;
@@ -232,8 +236,8 @@ module _ {D : Type 0} (g : Ghosts D) (run : Run) (old : PrimaryView D) (before b
   -- the same of what a primary became
   pub then_turn : (mid : PrimaryView D) → mid ≡ record old { book = book; desk = mid.desk; media = mid.media } → ((entries : List Entry) → PrimaryAgreesIn g old entries before → PrimaryAgreesIn g mid entries between)
       → g.faults old.media.log.disk ≤ g.faults mid.media.log.disk → g.tells mid.media.log.disk ≡ g.tells old.media.log.disk
-      → (new : PrimaryView D) (after : NodeView) (turn : Turn) → TakesTurn g run mid new between after (Some number) turn → TakesTurn g run old new before after (Some number) turn
+      → (new : PrimaryView D) (after : NodeView) (turn : Turn) → TriesTurn g run mid new between after (Some number) turn → TriesTurn g run old new before after (Some number) turn
   then_turn mid rest agrees faults tells new after turn h =
       turn_of_mid mid.desk mid.media new after
       (λ entries agreed. subst (λ (v : PrimaryView D). PrimaryAgreesIn g v entries between) rest (agrees entries agreed)) faults tells turn
-      (subst (λ (v : PrimaryView D). TakesTurn g run v new between after (Some number) turn) rest h)
+      (subst (λ (v : PrimaryView D). TriesTurn g run v new between after (Some number) turn) rest h)

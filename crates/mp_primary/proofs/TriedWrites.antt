@@ -149,7 +149,7 @@ module _ {D : Type 0} (g : Ghosts D) (run : Run) (old : PrimaryView D) (before b
               run = all.run;
               frames = all.frames;
               others = all.others;
-              mine = λ q has. let r = all.mine q has in let is = given (goes_then x made) q r.0 has r.1 in (r.0, r.1, did_put trx x p.row pages q r.0 r.2 p.put p.writer p.not_restored is.0 is.1);
+              mine = λ q has. let r = all.mine q has in let is = given (goes_then x made) q r.0 has r.1 in (r.0, r.1, did_put trx x p.row pages q r.0 r.2 p.put p.writer p.not_restored is.0 is.1, r.3);
             };
             faults = counted;
             tells = told;

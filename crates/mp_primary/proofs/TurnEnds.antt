@@ -5,6 +5,7 @@ use Rattle.std.proofs.lemmas.Option.{slice_get_within}
 use Rattle.mp_machine.specs.Lists.{IsIn}
 use Rattle.mp_machine.specs.View.{part_in}
 use Rattle.mp_model.specs.declared.replies.Answer.{Answer}
+use Rattle.mp_model.specs.Listed.{Listed}
 use Rattle.mp_model.specs.declared.replies.Reply.{Reply}
 use Rattle.mp_model.specs.declared.replies.Reply.TheVariants.{Began, Got, Scanned, Wrote, Committed, CommittedNone, Unknown, RolledBack, Conflict, Held, Full, Skipped, Stopped}
 use Rattle.mp_model.specs.declared.waiting.Cause.{Cause}
@@ -46,7 +47,8 @@ use Rattle.mp_desk.specs.Making.{HoldsPartOf}
 use Rattle.mp_desk.proofs.Moving.{moves_as}
 use Rattle.mp_desk.proofs.MediaMoved.{not_zero}
 use Rattle.mp_primary.specs.Primaries.{PrimaryView, IsPrimary, AreSessions, AreWaitsSupported, PrimaryAgreesIn, PrimaryAgrees}
-use Rattle.mp_primary.specs.Turns.{IsInTurns, MayTakeTurn, IsLeftAfter, GoesOnBy, TakesTurn, ComesTo, has_nothing_left, no_task_in, NamesWait, WaitsFor, TellsDown}
+use Rattle.mp_primary.specs.Turns.{IsInTurns, MayTakeTurn, IsLeftAfter, GoesOnBy, ComesTo, has_nothing_left, no_task_in, NamesWait, WaitsFor, TellsDown}
+use Rattle.mp_primary.specs.Tries.{TriesTurn}
 use Rattle.mp_primary.specs.AtWork.{HasClearedDesk, HasGoneDown}
 use Rattle.mp_primary.proofs.OpenSessions.{one_of, waits_ended}
 use Rattle.mp_primary.proofs.AnsweredTurns.{calm, entry_of, AnswersWell, goes_on_answered, line_found}
@@ -142,7 +144,7 @@ module _ {D : Type 0} (g : Ghosts D) where
 
   -- What a wait asks of its statement
   pub record IsRightWait (old : PrimaryView D) (before n : NodeView) (number : ℕ) (cause : Cause) (new : PrimaryView D) : Type 0 where
-    pub answers : new.book.answers.items ≡ old.book.answers.items
+    pub answers : new.book.answers ≡ old.book.answers
     pub sides : (entries : List Entry) (q r : CorePart) → part_in before.parts old.number ≡ Some q → part_in n.parts old.number ≡ Some r
         → PrimaryAgrees g old entries q → HasSides old.work r new.book
     pub others : (other : ℕ) → Some number ≢ Some other → slice_get new.book.sessions.items other ≡ slice_get old.book.sessions.items other
@@ -199,17 +201,17 @@ module _ {D : Type 0} (g : Ghosts D) where
                     λ page. inl (cleared.idle r there page);
               }
 
-          media_up : (r : CorePart) → part_in n.parts old.number ≡ Some r → HoldsPartOf g old.work old.down media r
-          media_up r there = subst (λ (k : ℕ). HoldsPartOf g old.work k media r) (sym cleared.work.up) (cleared.work.media r there)
+          media_up : (r : CorePart) → part_in n.parts old.number ≡ Some r → HoldsPartOf g old.work old.down old.number media r
+          media_up r there = subst (λ (k : ℕ). HoldsPartOf g old.work k old.number media r) (sym cleared.work.up) (cleared.work.media r there)
 
           primary_up : IsPrimary (record old { book = book; desk = desk; media = media })
           primary_up = record {
             book = books;
             names = comes.stands.primary.names;
+            places = comes.stands.primary.places;
             own = cleared.work.own;
             up =
                 λ up. (cleared.work.log, cleared.empty, cleared.forced);
-            down = inl cleared.work.up;
           }
 
           -- ---- answered, and up
@@ -254,7 +256,7 @@ module _ {D : Type 0} (g : Ghosts D) where
             its_reply a more = sym is.reply_is ∙ ap (λ (x : Answer). x.reply)
                 (added_one old.book.answers.items is.answer a (sym is.answers ∙ more))
 
-            turn_up : TakesTurn g run old (record old { book = book; desk = desk; media = media }) before n (Some number) turns.Answered
+            turn_up : TriesTurn g run old (record old { book = book; desk = desk; media = media }) before n (Some number) turns.Answered
             turn_up = record {
               stands = record {
                 primary = primary_up;
@@ -275,6 +277,8 @@ module _ {D : Type 0} (g : Ghosts D) where
                   ∙ set_here old.book.sessions.items number is.after (slice_get_within old.book.sessions.items number s found)) there)
                   ∙ is.goes.waits;
               cause = tt;
+              up = tt;
+              answers = tt;
               down = inl refl;
               faults = cleared.work.faults;
               tells = cleared.work.tells;
@@ -305,7 +309,7 @@ module _ {D : Type 0} (g : Ghosts D) where
             let sides = right.sides entries q.0 r q.1 there was in
             record {
               kept = kept_quiet old.work q.0 r old.down old.down entries (inl cleared.work.up) was.kept did;
-              answers = was.answers ∙ sym right.answers;
+              answers = was.answers ∙ sym (ap (λ (l : Listed Answer). l.items) right.answers);
               opens = λ up. sides.opens;
               sessions = sides.opens.only;
               waits = sides.opens.waits;
@@ -331,9 +335,9 @@ module _ {D : Type 0} (g : Ghosts D) where
         }
 
         none_added : (a : Answer) → book.answers.items ≡ old.book.answers.items ++ a ∷ [] → ⊥
-        none_added a more = longer old.book.answers.items a (sym right.answers ∙ more)
+        none_added a more = longer old.book.answers.items a (sym (ap (λ (l : Listed Answer). l.items) right.answers) ∙ more)
 
-        turn_waiting : TakesTurn g run old (record old { book = book; desk = desk; media = media }) before n (Some number)
+        turn_waiting : TriesTurn g run old (record old { book = book; desk = desk; media = media }) before n (Some number)
             (turns.Waiting cause)
         turn_waiting = record {
           stands = record {
@@ -349,6 +353,8 @@ module _ {D : Type 0} (g : Ghosts D) where
           others = right.others;
           named = right.named;
           cause = right.waits;
+          up = cleared.work.up;
+          answers = right.answers;
           down = inl refl;
           faults = cleared.work.faults;
           tells = cleared.work.tells;
@@ -424,17 +430,17 @@ module _ {D : Type 0} (g : Ghosts D) where
         reply_down a more = sym is.reply_is ∙ ap (λ (x : Answer). x.reply)
             (added_one old.book.answers.items is.answer a (sym is.answers ∙ more))
 
-        turn_down : TakesTurn g run old (record old { book = book; desk = desk; media = media; down = old.number }) before n
+        turn_down : TriesTurn g run old (record old { book = book; desk = desk; media = media; down = old.number }) before n
             (Some number) turns.Answered
         turn_down = record {
           stands = record {
             primary = record {
               book = books;
               names = comes.stands.primary.names;
+              places = comes.stands.primary.places;
               own = gone.own;
               up =
                   λ up. absurd (some_number up);
-              down = inr (refl, some_number);
             };
             desk = gone.desk;
             agrees = let more = goes_down comes.stands.agrees.0 comes.stands.agrees.1 in (comes.stands.agrees.0 ++ more.more, more.agrees);
@@ -452,6 +458,8 @@ module _ {D : Type 0} (g : Ghosts D) where
               ∙ set_here old.book.sessions.items number is.after (slice_get_within old.book.sessions.items number s found)) there)
               ∙ is.goes.waits;
           cause = tt;
+          up = tt;
+          answers = tt;
           down = inr (gone.up, refl, gone.rose);
           faults = gone.faults;
           tells = gone.tells;
@@ -475,9 +483,9 @@ module _ {D : Type 0} (g : Ghosts D) where
           → (reply : Reply) (stage : Stage) (formers : List Row) (restored : ℕ)
           (is : IsAnswered old.book book number s line reply stage formers restored)
           → IsRightAnswer old before n line reply trace is.answer book → IsInTurns stage
-          → TakesTurn g run old (record mid { book = book }) before n (Some number) turns.Answered
+          → TriesTurn g run old (record mid { book = book }) before n (Some number) turns.Answered
       answered_up trace cleared reply stage formers restored is right inside =
-          subst (λ (v : PrimaryView D). TakesTurn g run old (record v { book = book }) before n (Some number) turns.Answered)
+          subst (λ (v : PrimaryView D). TriesTurn g run old (record v { book = book }) before n (Some number) turns.Answered)
           (sym cleared.work.rest)
           (turn_up b book mid.desk mid.media books trace
           (subst (λ (v : PrimaryView D). HasClearedDesk g run (record old { book = b }) v before n trace) cleared.work.rest cleared)
@@ -485,9 +493,9 @@ module _ {D : Type 0} (g : Ghosts D) where
 
       pub waiting_up : HasClearedDesk g run (record old { book = b }) mid before n no_trace → (cause : Cause)
           → IsRightWait old before n number cause (record mid { book = book })
-          → TakesTurn g run old (record mid { book = book }) before n (Some number) (turns.Waiting cause)
+          → TriesTurn g run old (record mid { book = book }) before n (Some number) (turns.Waiting cause)
       waiting_up cleared cause right =
-          subst (λ (v : PrimaryView D). TakesTurn g run old (record v { book = book }) before n (Some number) (turns.Waiting cause))
+          subst (λ (v : PrimaryView D). TriesTurn g run old (record v { book = book }) before n (Some number) (turns.Waiting cause))
           (sym cleared.work.rest)
           (turn_waiting b book mid.desk mid.media books
           (subst (λ (v : PrimaryView D). HasClearedDesk g run (record old { book = b }) v before n no_trace) cleared.work.rest
@@ -498,9 +506,9 @@ module _ {D : Type 0} (g : Ghosts D) where
           → (reply : Reply) (stage : Stage) (formers : List Row) (restored : ℕ)
           (is : IsAnswered old.book book number s line reply stage formers restored)
           → IsRightStop old before n line reply trace is.answer book → IsInTurns stage
-          → TakesTurn g run old (record mid { book = book }) before n (Some number) turns.Answered
+          → TriesTurn g run old (record mid { book = book }) before n (Some number) turns.Answered
       answered_down trace gone reply stage formers restored is right inside =
-          subst (λ (v : PrimaryView D). TakesTurn g run old (record v { book = book }) before n (Some number) turns.Answered)
+          subst (λ (v : PrimaryView D). TriesTurn g run old (record v { book = book }) before n (Some number) turns.Answered)
           (sym gone.rest)
           (turn_down b book mid.desk mid.media books trace
           (subst (λ (v : PrimaryView D). HasGoneDown g run (record old { book = b }) v before n trace) gone.rest gone) reply stage

@@ -24,7 +24,8 @@ use Rattle.mp_desk.specs.Statements.{StaysQuiet}
 use Rattle.mp_desk.proofs.Moving.{moves_as}
 use Rattle.mp_desk.proofs.PutBackRows.{moves_quiet}
 use Rattle.mp_primary.specs.Primaries.{PrimaryView}
-use Rattle.mp_primary.specs.Turns.{TakesTurn, ComesTo, WaitsFor}
+use Rattle.mp_primary.specs.Turns.{ComesTo, WaitsFor}
+use Rattle.mp_primary.specs.Tries.{TriesTurn}
 use Rattle.mp_primary.specs.AtWork.{IsAtWork, HasClearedDesk, WroteHere}
 use Rattle.mp_primary.proofs.LetGoQuietly.{moves_quiet_let_go}
 use Rattle.mp_primary.proofs.OpenSessions.{one_of}
@@ -51,7 +52,7 @@ module _ {D : Type 0} (g : Ghosts D) (run : Run) (old mid : PrimaryView D) (befo
 
   -- the book notes nothing
   pub waits_plainly : (cause : Cause) → ((name : TrxName) → cause ≡ Writer name → ⊥) → WaitsFor old number before between cause
-      → TakesTurn g run old mid before n (Some number) (turns.Waiting cause)
+      → TriesTurn g run old mid before n (Some number) (turns.Waiting cause)
   waits_plainly cause no_writer waits =
       waiting_up g run old before n number s line comes old.book mid.book mid
       (subst (λ (b : Book). IsBook old.work.lines old.work.sessions old.number b) (sym same_book) comes.stands.primary.book) cleared
@@ -66,7 +67,7 @@ module _ {D : Type 0} (g : Ghosts D) (run : Run) (old mid : PrimaryView D) (befo
       (λ target. HasWrittenHere (execution_above lines sessions mid.book.answers.items) primary target.key name)
       → IsBook lines sessions primary book)
       → WroteHere old line (Writer name) → WaitsFor old number before between (Writer name)
-      → TakesTurn g run old (record mid { book = book }) before n (Some number) (turns.Waiting (Writer name))
+      → TriesTurn g run old (record mid { book = book }) before n (Some number) (turns.Waiting (Writer name))
   waits_noted book name notes books wrote waits =
       let found : slice_get mid.book.sessions.items number ≡ Some s = ap (λ (b : Book). slice_get b.sessions.items number) same_book
       ∙ comes.next.found in
@@ -129,7 +130,7 @@ module _ {D : Type 0} (g : Ghosts D) (run : Run) (old mid view : PrimaryView D) 
       (λ target. HasWrittenHere (execution_above lines sessions view.book.answers.items) primary target.key name)
       → IsBook lines sessions primary book)
       → WroteHere old line (Writer name) → WaitsFor old number before between (Writer name)
-      → TakesTurn g run old (record view { book = book }) before n (Some number) (turns.Waiting (Writer name))
+      → TriesTurn g run old (record view { book = book }) before n (Some number) (turns.Waiting (Writer name))
   waits_inside book name notes books wrote waits =
       waits_noted g run old view before between n number s line comes held quiet gone
       (subst (λ (v : PrimaryView D). HasClearedDesk g run old v before n no_trace) (sym same) cleared) book name notes books wrote

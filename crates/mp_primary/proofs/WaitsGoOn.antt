@@ -1,5 +1,5 @@
 -- What a statement waits for, it waits for after further steps; and the session that has noted its writer.
-use Rattle.std.proofs.Common.{◌≡◌, ◌≢◌, ℕ, ◌+◌, ◌<◌, ◌≤◌, ◌⊎◌, Bool, true, false, List, [], ◌∷◌, ◌++◌, length, drop, slice_get, slice_set, Option, None, Some, IfSome, MatchOption, if◌then◌else◌, refl, sym, ap, subst, ◌∙◌, inl, inr, arith}
+use Rattle.std.proofs.Common.{◌≡◌, ℕ, Bool, true, false, List, [], ◌∷◌, ◌++◌, length, slice_get, slice_set, Option, None, Some, IfSome, MatchOption, if◌then◌else◌, refl, sym, ap, subst, ◌∙◌, inl, inr, arith}
 use Rattle.std.specs.List.{AllByRecursion}
 use Rattle.std.proofs.lemmas.List.{append-nil}
 use Rattle.std.proofs.lemmas.Option.{slice_get_within}
@@ -14,7 +14,6 @@ use Rattle.mp_script.specs.Right.{IsWithoutRepeat}
 use Rattle.mp_script.specs.Transactions.{Target, target_of}
 use Rattle.mp_script.proofs.Lists.{all_append}
 use Rattle.mp_cells.specs.declared.records.Mtr.{Mtr}
-use Rattle.mp_cells.specs.declared.rows.Row.{Row}
 use Rattle.mp_core_pages.specs.declared.part.Placed.{Placed}
 use Rattle.mp_core_trx.specs.declared.part.Begun.{Begun}
 use Rattle.mp_core_trx.specs.declared.slot.Shown.{Shown}
@@ -26,7 +25,7 @@ use Rattle.mp_book.specs.declared.session.Session.{Session}
 use Rattle.mp_book.specs.declared.stage.Stage.{Stage}
 use Rattle.mp_book.specs.Stages.{next_line, trx_of_stage, is_named, with_name}
 use Rattle.mp_book.specs.Answered.{execution_above, HasWrittenHere, WaitsStand}
-use Rattle.mp_book.specs.Books.{IsBook, IsNext, NotesWait}
+use Rattle.mp_book.specs.Books.{IsBook, NotesWait}
 use Rattle.mp_outside.specs.declared.disks.Disk.{Ghosts}
 use Rattle.mp_shared.specs.Nodes.{Run, NodeView, HoldsPart}
 use Rattle.mp_shared.proofs.Holding.{held_part}
@@ -41,8 +40,8 @@ use Rattle.mp_supports.proofs.Keeping.{if_some_map}
 use Rattle.mp_supports.proofs.Places.{at_place}
 use Rattle.mp_supports.proofs.SeesMore.{newest_more, load_more}
 use Rattle.mp_supports.proofs.SupportsMore.{waits_more}
-use Rattle.mp_desk.specs.Desks.{Moves, MetWait}
-use Rattle.mp_desk.specs.Statements.{StaysQuiet, IsInPrep, IsPreparing}
+use Rattle.mp_desk.specs.Desks.{Moves}
+use Rattle.mp_desk.specs.Statements.{StaysQuiet, IsPreparing}
 use Rattle.mp_desk.proofs.Moving.{goes_both}
 use Rattle.mp_desk.proofs.SeenMore.{past_more}
 use Rattle.mp_primary.specs.Primaries.{PrimaryView, PrimaryAgrees}
@@ -266,7 +265,7 @@ module _ {D : Type 0} (g : Ghosts D) (run : Run) (old : PrimaryView D) (before n
   -- a wait for a writer, which the book has noted
   pub noted_wait : (mid : PrimaryView D) → IsRightWait g old before n number (Writer name) (record mid { book = book })
   noted_wait mid = record {
-    answers = ap (λ a. a.items) notes.sets.answers;
+    answers = notes.sets.answers;
     sides = noted_sides;
     others = λ other ne. ap (λ (l : List Session). slice_get l other) notes.sets.sessions
         ∙ set_else old.book.sessions.items number other notes.after (λ same. ne (ap (λ (k : ℕ). Some k) (sym same)));

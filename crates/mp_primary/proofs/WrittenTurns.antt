@@ -41,7 +41,8 @@ use Rattle.mp_desk.specs.LetGo.{HasLetGo}
 use Rattle.mp_desk.specs.Statements.{MakesThen}
 use Rattle.mp_desk.proofs.Moving.{moves_as}
 use Rattle.mp_primary.specs.Primaries.{PrimaryView, PrimaryAgrees}
-use Rattle.mp_primary.specs.Turns.{IsSessionOf, TakesTurn}
+use Rattle.mp_primary.specs.Turns.{IsSessionOf}
+use Rattle.mp_primary.specs.Tries.{TriesTurn}
 use Rattle.mp_primary.specs.AtWork.{HasClearedDesk, LeavesAtMostOne, MayStopWith}
 use Rattle.mp_primary.specs.WriteTurns.{mtr_of_put, first_row, HasPutRow}
 use Rattle.mp_primary.proofs.AnsweredTurns.{found_here}
@@ -180,7 +181,7 @@ module _ {D : Type 0} (g : Ghosts D) (run : Run) (old now : PrimaryView D) (befo
               (bounds_put old.work q r m.extends old.book.answers.items old.book.sessions.items number put.tries.session is.after put.tries.comes.next.found was.bounds put.placed trx first is.answer m.made m.drew (ap trx_of_stage put.tries.stage) goes_same writes));
         }
 
-    pub written_turn : TakesTurn g run old (record mid { book = book }) before n (Some number) turns.Answered
+    pub written_turn : TriesTurn g run old (record mid { book = book }) before n (Some number) turns.Answered
     written_turn = answered_up g run old before n number put.tries.session put.tries.line put.tries.comes old.book book mid books its_trace cleared (Wrote verb) put.tries.session.stage (with_former put.tries.session.formers.items first) put.tries.session.restored is
         (record {
           supported = supported_then;
@@ -228,7 +229,7 @@ module _ {D : Type 0} (g : Ghosts D) (run : Run) (old now : PrimaryView D) (befo
 
   pub write_turn : (book : Book) → ((s : Session) (line : Line) → IsNext inside.book number s line → IsAnswered inside.book book number s line (Wrote verb) s.stage (with_former s.formers.items first) s.restored)
       → ((lines : List Line) (sessions : List SessionOn) (primary : ℕ) → IsBook lines sessions primary inside.book → (is_stopped (Wrote verb) ≡ true) ⊎ NoneShowsDown inside.book.answers.items → IsBook lines sessions primary book)
-      → TakesTurn g run old (record inside { book = book }) before n (Some number) turns.Answered
+      → TriesTurn g run old (record inside { book = book }) before n (Some number) turns.Answered
   write_turn book answered books =
       written_turn g run old now before between number trx verb key former put n gone_old inside cleared_inside first keeps from book
       (books old.work.lines old.work.sessions old.number (subst (λ (b : Book). IsBook old.work.lines old.work.sessions old.number b) (sym book_same) put.tries.comes.stands.primary.book)

@@ -90,7 +90,7 @@ module _ {D : Type 0} (g : Ghosts D) where
     pub work : mid.work ≡ old.work
     pub did : Moves (λ q r. Did q r no_trace) old.number before n
     pub goes_on : (entries : List Entry) → PrimaryAgreesIn g old entries before → PrimaryAgreesIn g mid entries n
-    pub answers : mid.book.answers.items ≡ old.book.answers.items
+    pub answers : mid.book.answers ≡ old.book.answers
     pub others : (other : ℕ) → other ≢ session → slice_get mid.book.sessions.items other ≡ slice_get old.book.sessions.items other
     pub same : (s : Session) → IsSessionOf old session s → (t : Session) × IsSessionOf mid session t × (next_line t ≡ next_line s) × (t.waits.items ≡ s.waits.items)
     pub down : (mid.down ≡ old.down) ⊎ ((old.down ≡ 0) × (mid.down ≡ old.number) × Rose (g.faults old.media.log.disk) (g.faults mid.media.log.disk))

@@ -1,7 +1,11 @@
 pub mod Primaries
+pub mod Answering
 pub mod Holders
+pub mod Downs
 pub mod Turns
+pub mod Tries
 pub mod OutsideCalls
+pub mod OutsideTries
 pub mod AtWork
 pub mod GoingOn
 pub mod WriteTurns

@@ -1,9 +1,10 @@
 -- A primary as its callers see it, and when it agrees with its part.
-use Rattle.std.specs.Prelude.{◌≡◌, ◌≢◌, ℕ, ◌<◌, ◌⊎◌, true, false, List, [], length, None, Some, IfSome}
+use Rattle.std.specs.Prelude.{◌≡◌, ℕ, true, false, List, [], length, None, Some, IfSome}
 use Rattle.std.specs.List.{AllByRecursion}
 use Rattle.mp_machine.specs.Lists.{IsIn}
 use Rattle.mp_machine.specs.View.{part_in}
 use Rattle.mp_model.specs.declared.ids.TrxName.{TrxName}
+use Rattle.mp_script.specs.declared.statements.SessionOn.{SessionOn}
 use Rattle.mp_script.specs.BeginNames.{begin_names}
 use Rattle.mp_cells.specs.declared.records.Mtr.{Mtr}
 use Rattle.mp_core_trx.specs.declared.part.Begun.{Begun}
@@ -15,7 +16,7 @@ use Rattle.mp_book.specs.Books.{IsBook}
 use Rattle.mp_book.specs.Stages.{next_line, trx_of_stage}
 use Rattle.mp_outside.specs.declared.disks.Disk.{Ghosts}
 use Rattle.mp_log.specs.Tails.{LogView, LogStands}
-use Rattle.mp_shared.specs.Nodes.{Run, NodeView, Reached, HoldsPart}
+use Rattle.mp_shared.specs.Nodes.{Run, NodeView}
 use Rattle.mp_supports.specs.Work.{Work}
 use Rattle.mp_supports.specs.Supports.{SupportsWaits}
 use Rattle.mp_supports.specs.Kept.{Entry, answers_in, Kept}
@@ -26,25 +27,25 @@ use Rattle.mp_desk.specs.declared.media.Media.{Media}
 use Rattle.mp_desk.specs.Desks.{IsAtDesk}
 use Rattle.mp_desk.specs.Making.{IsOpenLog, HoldsPartOf}
 
--- which primary it is, what it answers, the names of all transactions in the order of their `begin` lines, its book, its
--- desk and its log, and the number with which it is down (0 where it is up)
+-- which primary it is, what it answers, the names of all transactions in the order of their `begin` lines, where the
+-- sessions are declared, its book, its desk and its log, and the number with which it is down (0 where it is up)
 pub record PrimaryView (D : Type 0) : Type 0 where
   pub number : ℕ
   pub work : Work
   pub names : List TrxName
+  pub places : List SessionOn
   pub book : Book
   pub desk : Desk
   pub media : Media D
   pub down : ℕ
 
--- A primary between two turns: its book is one of its work; while it is up, its log is open and no page is in a buffer; it
--- goes down with its own number alone, and then its log is closed
+-- A primary between two turns: its book is one of its work; while it is up, its log is open and no page is in a buffer
 pub record IsPrimary {D : Type 0} (pr : PrimaryView D) : Type 0 where
   pub book : IsBook pr.work.lines pr.work.sessions pr.number pr.book
   pub names : pr.names ≡ begin_names pr.work.lines
+  pub places : pr.places ≡ pr.work.sessions
   pub own : pr.desk.mtr.node ≡ pr.number
   pub up : pr.down ≡ 0 → IsOpenLog pr.number pr.desk.llsn pr.media.log × (pr.desk.pool ≡ []) × (pr.media.unforced ≡ false)
-  pub down : (pr.down ≡ 0) ⊎ ((pr.down ≡ pr.number) × (pr.number ≢ 0))
 
 -- each transaction that the part has open is a session's
 abbrev pub AreSessions : CorePart → List Session → Type 0
@@ -74,7 +75,7 @@ module _ {D : Type 0} (g : Ghosts D) where
     pub sessions : AreSessions q pr.book.sessions.items
     pub waits : AreWaitsSupported pr.work q pr.book.sessions.items
     pub mirrors : Mirrors q pr.down pr.desk.llsn pr.desk.undo
-    pub media : HoldsPartOf g pr.work pr.down pr.media q
+    pub media : HoldsPartOf g pr.work pr.down pr.number pr.media q
     pub bounds : Bounds pr.work q pr.book.answers.items pr.book.sessions.items
     -- the table was opened for this many transactions, so each has a name
     pub exact : q.trx.opening.begins ≡ length (begin_names pr.work.lines)

@@ -1,5 +1,5 @@
 -- What one turn of a primary leaves.
-use Rattle.std.specs.Prelude.{◌≡◌, ◌≢◌, ℕ, ◌<◌, ◌⊎◌, Bool, true, false, List, [], ◌∷◌, ◌++◌, ◌+◌, ◌≤◌, slice_get, Option, Some, None, IfSome}
+use Rattle.std.specs.Prelude.{◌≡◌, ◌≢◌, ℕ, ◌<◌, ◌⊎◌, Bool, true, List, [], ◌∷◌, ◌++◌, ◌+◌, ◌≤◌, slice_get, Option, Some, None, IfSome}
 use Rattle.std.specs.List.{AllByRecursion}
 use Rattle.mp_machine.specs.Lists.{IsIn}
 use Rattle.mp_machine.specs.View.{part_in}
@@ -31,17 +31,17 @@ use Rattle.mp_book.specs.Stages.{next_line, task_of, with_name}
 use Rattle.mp_book.specs.Through.{has_no_task, have_no_task}
 use Rattle.mp_book.specs.Books.{IsNext, HasRoom, IsGoingBack}
 use Rattle.mp_outside.specs.declared.disks.Disk.{Ghosts}
-use Rattle.mp_outside.specs.Faults.{Rose}
 use Rattle.mp_shared.specs.Nodes.{Run, NodeView, HoldsAll}
 use Rattle.mp_shared.specs.Slots.{next_slot}
 use Rattle.mp_trx_fusion.specs.Calls.{no_slot_for, Knows, KnowsLess, tso_of}
 use Rattle.mp_supports.specs.Work.{name_of}
 use Rattle.mp_supports.specs.Supports.{IsTrxOf, IsWaitFor}
 use Rattle.mp_supports.specs.Kept.{Entry}
-use Rattle.mp_desk.specs.Desks.{MetWait, Moves}
+use Rattle.mp_desk.specs.Desks.{MetWait}
 use Rattle.mp_desk.specs.Statements.{IsPreparing}
 use Rattle.mp_primary.specs.Primaries.{PrimaryView, PrimaryAgreesIn, StandsWith}
 use Rattle.mp_primary.specs.Holders.{MetStranger}
+use Rattle.mp_primary.specs.Downs.{WentOn, IsDownAsTold, FoundAllUp, FoundOneDown, WentDownHere}
 
 -- a session that is there has nothing left to do
 abbrev pub no_task_in : Option Session → Bool
@@ -61,6 +61,11 @@ IsInTurns stage = (trx : Option Begun) → stage ≢ Outside trx
 -- rows are put back at this stage in a turn
 abbrev pub IsTakenBack : Stage → Type 0
 IsTakenBack stage = IsGoingBack stage × IsInTurns stage
+
+-- an answer tells for whom its statement waited; one that is stopped also of a transaction that it found in the same turn
+abbrev pub HasWaits : List TrxName → Answer → Type 0
+HasWaits waits answer = (answer.waits.items ≡ waits)
+    ⊎ ((name : TrxName) × (by : ℕ) × (answer.reply ≡ Stopped by) × (answer.waits.items ≡ with_name name waits))
 
 module _ {D : Type 0} where
   -- the primary's session with this number
@@ -100,7 +105,7 @@ module _ {D : Type 0} where
     pub answer : Answer
     pub of_session : answer.session ≡ number
     pub index : answer.index ≡ line.index
-    pub waits : answer.waits.items ≡ session.waits.items
+    pub waits : HasWaits session.waits.items answer
     pub entry : Entry
     pub has : entry.answer ≡ Some answer
     pub one : more ≡ entry ∷ []
@@ -140,6 +145,24 @@ module _ {D : Type 0} where
   NamesWait old new number turns.Answered = (s : Session) → IsSessionOf new number s → s.waits.items ≡ []
   NamesWait old new number _ = (s after : Session) → IsSessionOf old number s → IsSessionOf new number after → after.waits.items ≡ s.waits.items
 
+module _ {D : Type 0} where
+  -- The turn of a session waits still, for what it waited for at that time: all others are up of whom it needs something
+  pub record WaitsStill (old : PrimaryView D) (number : ℕ) (before after : NodeView) (cause : Cause) : Type 0 where
+    pub at : NodeView
+    pub waits : WaitsFor old number before at cause
+    pub found : FoundAllUp old cause at after
+
+  -- Or it waited at that time, and one of whom it needs something is down: the primary went down with that one's number
+  pub record GoesDownWith (old new : PrimaryView D) (before after : NodeView) (number : ℕ) : Type 0 where
+    pub cause : Cause
+    pub at : NodeView
+    pub waits : WaitsFor old number before at cause
+    pub found : FoundOneDown old new cause at after
+
+-- why a turn took the primary down
+abbrev pub WentDownIn : {D : Type 0} → Ghosts D → PrimaryView D → PrimaryView D → NodeView → NodeView → Option ℕ → Type 0
+WentDownIn g old new before after session = WentDownHere g old new ⊎ ((number : ℕ) × (session ≡ Some number) × GoesDownWith old new before after number)
+
 -- where a turn waits, its cause is such
 abbrev pub IfWaiting : Turn → (Cause → Type 0) → Type 0
 IfWaiting (turns.Waiting cause) Is = Is cause
@@ -169,13 +192,14 @@ module _ {D : Type 0} (g : Ghosts D) where
     pub stands : StandsWith g run new after
     pub number : new.number ≡ old.number
     pub work : new.work ≡ old.work
-    pub went : Moves CoreExtends old.number before after
+    pub went : WentOn CoreExtends old.number before after
     pub goes_on : (entries : List Entry) → PrimaryAgreesIn g old entries before → GoesOnBy old new before after session entries turn
     pub others : (other : ℕ) → session ≢ Some other → slice_get new.book.sessions.items other ≡ slice_get old.book.sessions.items other
     pub named : IfSome session (λ number. NamesWait old new number turn)
-    pub cause : IfSome session (λ number. IfWaiting turn (WaitsFor old number before after))
-    -- it goes down by its own log alone, and once
-    pub down : (new.down ≡ old.down) ⊎ ((old.down ≡ 0) × (new.down ≡ old.number) × Rose (g.faults old.media.log.disk) (g.faults new.media.log.disk))
+    pub cause : IfSome session (λ number. IfWaiting turn (WaitsStill old number before after))
+    -- it goes down once: by its own log, or with the number of another that is down
+    pub down : (new.down ≡ old.down) ⊎ ((old.down ≡ 0) × WentDownIn g old new before after session)
+    pub told : IsDownAsTold new after
     pub faults : g.faults old.media.log.disk ≤ g.faults new.media.log.disk
     pub tells : g.tells new.media.log.disk ≡ g.tells old.media.log.disk
     -- a next turn may be taken for the session
@@ -196,6 +220,13 @@ module _ {D : Type 0} (g : Ghosts D) where
     pub next : IsNext pr.book number s line
     pub inside : IsInTurns s.stage
     pub room : HasRoom pr.book number
+
+  -- it is to be stopped, of a primary that is down: an answer alone needs no memory
+  pub record ComesToStop (run : Run) (pr : PrimaryView D) (n : NodeView) (number : ℕ) (s : Session) (line : Line) : Type 0 where
+    pub stands : StandsWith g run pr n
+    pub next : IsNext pr.book number s line
+    pub inside : IsInTurns s.stage
+    pub room : 0 < pr.book.answers.spare
 
   -- it is a statement of an open transaction of a primary that is up
   pub record TriesAt (run : Run) (pr : PrimaryView D) (n : NodeView) (number : ℕ) (trx : Begun) (stmt : Stmt) : Type 0 where

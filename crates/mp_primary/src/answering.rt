@@ -1,12 +1,16 @@
 //! How a turn ends: its statement is answered, waits, or is stopped.
 ghost use Rattle.std.specs.Prelude.{◌≡◌, ◌≢◌, ℕ, ◌+◌, ◌<◌, ◌≤◌, length, Some, None};
+ghost use Rattle.mp_model.specs.declared.replies.Answer.{Answer};
+ghost use Rattle.mp_model.specs.declared.replies.Reply.TheVariants.{Stopped};
+ghost use Rattle.mp_model.specs.declared.waiting.Turn.TheVariants as turns;
 ghost use Rattle.mp_script.specs.declared.statements.Line.{Line};
 ghost use Rattle.mp_book.specs.declared.session.Session.{Session};
 ghost use Rattle.mp_book.specs.declared.stage.Stage.TheVariants.{Skipping};
 ghost use Rattle.mp_shared.specs.Nodes.{Run, NodeView};
 ghost use Rattle.mp_supports.specs.Work.{name_of};
 ghost use Rattle.mp_script.specs.BeginNames.{begin_names};
-ghost use Rattle.mp_primary.specs.Turns.{TakesTurn, ComesTo};
+ghost use Rattle.mp_primary.specs.Turns.{IsSessionOf, Adds, ComesTo, ComesToStop};
+ghost use Rattle.mp_primary.specs.Tries.{TriesTurn};
 
 use crate::primary::Primary;
 use mp_model::{Reply, TrxId, TrxName, Turn};
@@ -17,7 +21,7 @@ impl<D: Disk> Primary<D> {
     pub(crate) fn skip(&mut self, number: u8) -> Turn
         requires comes { (run : Run) × (n : NodeView) × (s : Session) × (line : Line) × ComesTo D.Disk run self.old n number s line × (s.stage ≡ Skipping) }
         requires up { self.old.down ≡ 0 }
-        ensures { (run : Run) (n : NodeView) (s : Session) (line : Line) → ComesTo D.Disk run self.old n number s line → TakesTurn D.Disk run self.old self.new n n (Some number) result }
+        ensures { (run : Run) (n : NodeView) (s : Session) (line : Line) → ComesTo D.Disk run self.old n number s line → TriesTurn D.Disk run self.old self.new n n (Some number) result }
     {
         self.book.answer(self.alloc, number, Reply::Skipped, None);
         Turn::Answered
@@ -25,9 +29,11 @@ impl<D: Disk> Primary<D> {
 
     // Answers a session's next statement of a primary that is down.
     pub(crate) fn stop(&mut self, number: u8) -> Turn
-        requires comes { (run : Run) × (n : NodeView) × (s : Session) × (line : Line) × ComesTo D.Disk run self.old n number s line }
+        requires comes { (run : Run) × (n : NodeView) × (s : Session) × (line : Line) × ComesToStop D.Disk run self.old n number s line }
         requires down { self.old.down ≢ 0 }
-        ensures { (run : Run) (n : NodeView) (s : Session) (line : Line) → ComesTo D.Disk run self.old n number s line → TakesTurn D.Disk run self.old self.new n n (Some number) result }
+        ensures told { (a : Answer) → Adds self.old self.new a → (a.reply ≡ Stopped self.old.down) × ((s : Session) → IsSessionOf self.old number s → a.waits.items ≡ s.waits.items) }
+        ensures answered { result ≡ turns.Answered }
+        ensures stops { (run : Run) (n : NodeView) (s : Session) (line : Line) → ComesToStop D.Disk run self.old n number s line → TriesTurn D.Disk run self.old self.new n n (Some number) turns.Answered }
     {
         self.book
             .answer(self.alloc, number, Reply::Stopped(self.down), None);

@@ -6,7 +6,8 @@ ghost use Rattle.std.specs.List.{position};
 ghost use Rattle.mp_script.specs.Transactions.{same_trx};
 ghost use Rattle.mp_book.specs.declared.session.Session.{Session};
 ghost use Rattle.mp_book.specs.declared.stage.Stage.TheVariants.{Closed};
-ghost use Rattle.mp_primary.specs.Turns.{TakesTurn, ComesTo};
+ghost use Rattle.mp_primary.specs.Turns.{ComesTo};
+ghost use Rattle.mp_primary.specs.Tries.{TriesTurn};
 
 use crate::primary::Primary;
 use mp_model::{Cause, TrxName, Turn};
@@ -26,7 +27,7 @@ impl<D: Disk> Primary<D> {
     ) -> Turn
         requires comes { (s : Session) × ComesTo D.Disk shared.now self.old node.old number s line × (s.stage ≡ Closed) }
         requires up { self.old.down ≡ 0 }
-        ensures { TakesTurn D.Disk shared.now self.old self.new node.old node.new (Some number) result }
+        ensures { TriesTurn D.Disk shared.now self.old self.new node.old node.new (Some number) result }
     {
         let place = place_of(
             self.names.as_slice(),

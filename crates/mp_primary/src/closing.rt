@@ -10,7 +10,8 @@ ghost use Rattle.mp_desk.specs.Desks.{Moves};
 ghost use Rattle.mp_desk.specs.LetGo.{HasLetGo};
 ghost use Rattle.mp_desk.specs.Statements.{StaysQuiet};
 ghost use Rattle.mp_primary.specs.Primaries.{PrimaryView, StandsWith};
-ghost use Rattle.mp_primary.specs.Turns.{TakesTurn, WaitsFor, ComesTo};
+ghost use Rattle.mp_primary.specs.Turns.{WaitsFor, ComesTo};
+ghost use Rattle.mp_primary.specs.Tries.{TriesTurn};
 ghost use Rattle.mp_primary.specs.AtWork.{IsAtWork, HasClearedDesk, HasGoneDown, MayStopWith, WroteHere};
 
 use crate::primary::Primary;
@@ -45,7 +46,7 @@ impl<D: Disk> Primary<D> {
         cause: Cause,
     ) -> Turn
         requires work { (old : PrimaryView D) × (before : NodeView) × (s : Session) × (line : Line) × ComesTo D.Disk shared.now old before number s line × IsAtWork D.Disk shared.now old self.old before node.old no_trace × WaitsFor old number before node.old cause }
-        ensures { (old : PrimaryView D) (before : NodeView) (s : Session) (line : Line) → ComesTo D.Disk shared.now old before number s line → IsAtWork D.Disk shared.now old self.old before node.old no_trace → Moves StaysQuiet old.number before node.old → WaitsFor old number before node.old cause → WroteHere old line cause → TakesTurn D.Disk shared.now old self.new before node.new (Some number) result }
+        ensures { (old : PrimaryView D) (before : NodeView) (s : Session) (line : Line) → ComesTo D.Disk shared.now old before number s line → IsAtWork D.Disk shared.now old self.old before node.old no_trace → Moves StaysQuiet old.number before node.old → WaitsFor old number before node.old cause → WroteHere old line cause → TriesTurn D.Disk shared.now old self.new before node.new (Some number) result }
     {
         if let Err(_failed) = self.clear_desk(shared, node) {
             return self.stop_now(number, None);
@@ -64,7 +65,7 @@ impl<D: Disk> Primary<D> {
     // the row that it was the first of its transaction to replace, if it was.
     pub(crate) fn stop_now(&mut self, number: u8, former: Option<Row>) -> Turn
         requires work { (shared : Run) × (old : PrimaryView D) × (before : NodeView) × (n : NodeView) × (trace : Trace) × (s : Session) × (line : Line) × ComesTo D.Disk shared old before number s line × HasGoneDown D.Disk shared old self.old before n trace }
-        ensures { (shared : Run) (old : PrimaryView D) (before n : NodeView) (trace : Trace) (s : Session) (line : Line) → ComesTo D.Disk shared old before number s line → HasGoneDown D.Disk shared old self.old before n trace → MayStopWith old line former before n trace → TakesTurn D.Disk shared old self.new before n (Some number) result }
+        ensures { (shared : Run) (old : PrimaryView D) (before n : NodeView) (trace : Trace) (s : Session) (line : Line) → ComesTo D.Disk shared old before number s line → HasGoneDown D.Disk shared old self.old before n trace → MayStopWith old line former before n trace → TriesTurn D.Disk shared old self.new before n (Some number) result }
     {
         self.book
             .answer(self.alloc, number, Reply::Stopped(self.down), former);

@@ -12,7 +12,8 @@ ghost use Rattle.mp_book.specs.Books.{IsBook, IsNext, IsRolledBack};
 ghost use Rattle.mp_shared.specs.Nodes.{Run, NodeView};
 ghost use Rattle.mp_desk.specs.declared.halts.BackHalt.TheVariants as backs;
 ghost use Rattle.mp_primary.specs.Primaries.{PrimaryView, StandsWith};
-ghost use Rattle.mp_primary.specs.Turns.{IsSessionOf, TakesTurn, ComesTo, IsTakenBack};
+ghost use Rattle.mp_primary.specs.Turns.{IsSessionOf, ComesTo, IsTakenBack};
+ghost use Rattle.mp_primary.specs.Tries.{TriesTurn};
 ghost use Rattle.mp_primary.specs.GoingOn.{GoesBackOf, CountsBack, IsAllBack, MayReplyBack, refused_as, IsReplyBack, ForgetsWaits, ClosesSession, LeavesRows, GoesOnQuietly, HaltsTurn, HaltsLeaving};
 
 use crate::primary::Primary;
@@ -86,7 +87,7 @@ impl<D: Disk> Primary<D> {
         requires comes { (s : Session) × (line : Line) × ComesTo D.Disk shared.now self.old node.old number s line × IsTakenBack s.stage × (trx_of_stage s.stage ≡ Some trx) }
         requires up { self.old.down ≡ 0 }
         requires all { IsAllBack self.old number }
-        ensures { TakesTurn D.Disk shared.now self.old self.new node.old node.new (Some number) turns.Answered }
+        ensures { TriesTurn D.Disk shared.now self.old self.new node.old node.new (Some number) turns.Answered }
     {
         free(shared, node, self.number, trx.id);
         let reply = self.reply_back(number);
@@ -97,7 +98,7 @@ impl<D: Disk> Primary<D> {
     // statement is answered so.
     pub(crate) fn halt_back(&mut self, number: u8, halt: BackHalt) -> Turn
         requires halted { (run : Run) × (old : PrimaryView D) × (before : NodeView) × (n : NodeView) × (s : Session) × (line : Line) × HaltsTurn D.Disk run old self.old before n number s line halt }
-        ensures { (run : Run) (old : PrimaryView D) (before n : NodeView) (s : Session) (line : Line) → HaltsTurn D.Disk run old self.old before n number s line halt → TakesTurn D.Disk run old self.new before n (Some number) result }
+        ensures { (run : Run) (old : PrimaryView D) (before n : NodeView) (s : Session) (line : Line) → HaltsTurn D.Disk run old self.old before n number s line halt → TriesTurn D.Disk run old self.new before n (Some number) result }
     {
         match halt {
             BackHalt::Word(wait) => Turn::Waiting(Cause::Word(wait)),
@@ -111,7 +112,7 @@ impl<D: Disk> Primary<D> {
 
     // What a turn comes to in which a session left its transaction, and not all rows could be put back.
     pub(crate) fn halt_leaving(&self, halt: BackHalt) -> Turn
-        ensures { (run : Run) (old : PrimaryView D) (before n : NodeView) (number : ℕ) (s : Session) → HaltsLeaving D.Disk run old self.now before n number s halt → TakesTurn D.Disk run old self.now before n (Some number) result }
+        ensures { (run : Run) (old : PrimaryView D) (before n : NodeView) (number : ℕ) (s : Session) → HaltsLeaving D.Disk run old self.now before n number s halt → TriesTurn D.Disk run old self.now before n (Some number) result }
     {
         match halt {
             BackHalt::Word(wait) => Turn::Waiting(Cause::Word(wait)),
@@ -150,7 +151,7 @@ impl<D: Disk> Primary<D> {
         requires up { self.old.down ≡ 0 }
         requires leaving { (s : Session) × IsSessionOf self.old number s × (s.stage ≡ Leaving trx) × (next_line s ≡ None) }
         requires all { IsAllBack self.old number }
-        ensures { TakesTurn D.Disk shared.now self.old self.new node.old node.new (Some number) turns.Answered }
+        ensures { TriesTurn D.Disk shared.now self.old self.new node.old node.new (Some number) turns.Answered }
     {
         free(shared, node, self.number, trx.id);
         self.close(number);

@@ -13,7 +13,7 @@ ghost use Rattle.mp_core_trx.specs.declared.part.Begun.{Begun};
 ghost use Rattle.mp_core.specs.declared.part.CorePart.{CorePart};
 ghost use Rattle.mp_book.specs.declared.session.Session.{Session};
 ghost use Rattle.mp_book.specs.declared.stage.Stage.{Stage};
-ghost use Rattle.mp_book.specs.SmallBooks.{put_seven, stated_as, its_begun, its_name, session_with, answered_as, row_seven};
+ghost use Rattle.mp_book.specs.SmallBooks.{one_on_one, put_seven, stated_as, its_begun, its_name, session_with, answered_as, row_seven};
 ghost use Rattle.mp_facts.specs.SmallParts.{active_part, put_part};
 ghost use Rattle.mp_log.specs.Tails.{LogView};
 ghost use Rattle.mp_shared.specs.Nodes.{Run, NodeView};
@@ -27,19 +27,21 @@ ghost use Rattle.mp_desk.specs.Making.{IsOpenLog};
 ghost use Rattle.mp_primary.specs.declared.outside.CommitEnd.TheVariants as ends;
 ghost use Rattle.mp_primary.specs.declared.outside.RollRefusal.TheVariants as refusals;
 ghost use Rattle.mp_primary.specs.Primaries.{PrimaryView, IsPrimary, AreSessions, AreWaitsSupported, BeginsByAnswer, IsFirstLog, PrimaryAgrees, PrimaryAgreesIn, StandsWith};
-ghost use Rattle.mp_primary.specs.Turns.{no_task_in, IsPutStatement, IsInTurns, IsTakenBack, IsSessionOf, MayTakeTurn, MayLeave, has_nothing_left, HasNoStatement, Adds, AddsAnswer, EndsUnprinted, AddsNext, WaitsFor, NamesWait, IfWaiting, TellsDown, IsLeftAfter, GoesOnBy, TakesTurn, ComesTo, TriesAt};
+ghost use Rattle.mp_primary.specs.Answering.{has_no_line, have_no_line};
+ghost use Rattle.mp_primary.specs.Downs.{IsDownAsTold, WentDownHere};
+ghost use Rattle.mp_primary.specs.Turns.{no_task_in, IsPutStatement, IsInTurns, IsTakenBack, IsSessionOf, MayTakeTurn, MayLeave, has_nothing_left, HasNoStatement, Adds, AddsAnswer, EndsUnprinted, AddsNext, WaitsFor, NamesWait, IfWaiting, TellsDown, IsLeftAfter, GoesOnBy, TakesTurn, ComesTo, ComesToStop, TriesAt};
 ghost use Rattle.mp_primary.specs.AtWork.{IsAtWork, HasClearedDesk, HasGoneDown, LeavesAtMostOne, MayStopWith};
-ghost use Rattle.mp_primary.specs.OutsideCalls.{HasOpen, HasOpenStill, StandsOutside, CallsOutside, WentDownHere, IsOnEachImage, EndsAs, RollsBackAs};
+ghost use Rattle.mp_primary.specs.OutsideCalls.{HasOpen, HasOpenStill, StandsOutside, CallsOutside, IsOnEachImage, EndsAs, RollsBackAs};
 ghost use Rattle.mp_primary.specs.SmallPrimaries.{written_before, gate_alone};
 
 use mp_outside::Disk;
 
-/// A primary goes down with its own number alone. An open transaction of the part is a session's. A `commit` waits for
+/// A primary goes down with its own number or another, and knows where the script's sessions are declared. An open transaction of the part is a session's. A `commit` waits for
 /// nobody. Only what was answered began a transaction. A log with appended bytes isn't a first one. A primary agrees with its
 /// part only by the answers that it has, and stands with no node that lacks its part.
 pub fn law_primary_examples<D: Disk>()
-    ensures down { (pr : PrimaryView D) → pr.number ≢ 0 → IsPrimary pr → IsPrimary (record pr { down = pr.number }) }
-    ensures not_another { (pr : PrimaryView D) → pr.number ≡ 1 → pr.down ≡ 2 → ¬ IsPrimary pr }
+    ensures down { (pr : PrimaryView D) (by : ℕ) → by ≢ 0 → IsPrimary pr → IsPrimary (record pr { down = by }) }
+    ensures declared_elsewhere { (pr : PrimaryView D) → pr.places ≡ [] → pr.work.sessions ≡ one_on_one → ¬ IsPrimary pr }
     ensures none_open { AreSessions part_before_steps [] }
     ensures open_alone { ¬ AreSessions open_part [] }
     ensures no_waits { (work : Work) (q : CorePart) → AreWaitsSupported work q (open_session ∷ []) }
@@ -55,7 +57,7 @@ pub fn law_primary_examples<D: Disk>()
 
 /// Nothing is left where there are no sessions, and something where one has a transaction open. A delete writes no value.
 /// A session without a transaction is in turns; one of a call outside them isn't. Rows are put back in a turn at no stage of
-/// such a call, and no turn is taken for such a session. A transaction is left unprinted where no statement is left.
+/// such a call, and no turn is taken for such a session. A transaction is left unprinted where no statement is left, and then the session has no line.
 pub fn law_task_examples()
     ensures no_session { no_task_in None ≡ true }
     ensures a_task { no_task_in (Some (session_with 1 (Stage.Open its_begun) [])) ≡ false }
@@ -73,6 +75,8 @@ pub fn law_task_examples()
     ensures may_not_leave { (pr : PrimaryView ℕ) → pr.book.sessions.items ≡ session_with 1 (Stage.Open its_begun) [] ∷ [] → ¬ MayLeave pr 0 }
     ensures nothing_left { (pr : PrimaryView ℕ) → pr.book.sessions.items ≡ session_with 3 Stage.Closed [] ∷ [] → has_nothing_left pr None ≡ true }
     ensures something_left { (pr : PrimaryView ℕ) → pr.book.sessions.items ≡ session_with 3 Stage.Skipping [] ∷ [] → has_nothing_left pr (Some 0) ≡ false }
+    ensures no_line { has_no_line (session_with 3 (Stage.Open its_begun) []) ≡ true }
+    ensures a_line { have_no_line (session_with 3 Stage.Closed [] ∷ session_with 0 Stage.Closed [] ∷ []) ≡ false }
     ensures no_statement { (pr : PrimaryView ℕ) → pr.book.sessions.items ≡ session_with 3 Stage.Skipping [] ∷ [] → HasNoStatement pr (Some 0) }
     ensures a_statement { (pr : PrimaryView ℕ) → pr.book.sessions.items ≡ session_with 0 Stage.Closed [] ∷ [] → ¬ HasNoStatement pr (Some 0) }
 {}
@@ -106,7 +110,7 @@ pub fn law_answering_examples()
 /// either. No turn drops an answer, leaves its session with a call outside turns, or changes whether its log's disk tells. A
 /// statement is tried only with room for its answer, and only of a primary that is up.
 pub fn law_turn_examples<D: Disk>()
-    ensures done { (run : Run) (pr : PrimaryView D) (n : NodeView) (session : Option ℕ) → StandsWith D.Disk run pr n → pr.down ≡ 0 → has_nothing_left pr session ≡ true → IfSome session (MayTakeTurn pr) → TakesTurn D.Disk run pr pr n n session Turn.Done }
+    ensures done { (run : Run) (pr : PrimaryView D) (n : NodeView) (session : Option ℕ) → StandsWith D.Disk run pr n → IsDownAsTold pr n → pr.down ≡ 0 → has_nothing_left pr session ≡ true → IfSome session (MayTakeTurn pr) → TakesTurn D.Disk run pr pr n n session Turn.Done }
     ensures not_done { (run : Run) (pr : PrimaryView D) (n : NodeView) (session : Option ℕ) → pr.down ≡ 1 → ¬ TakesTurn D.Disk run pr pr n n session Turn.Done }
     ensures not_with_something_left { (run : Run) (pr : PrimaryView D) (n : NodeView) (session : Option ℕ) → has_nothing_left pr session ≡ false → ¬ TakesTurn D.Disk run pr pr n n session Turn.Done }
     ensures not_stopped { (run : Run) (pr : PrimaryView D) (n : NodeView) (session : Option ℕ) → pr.down ≡ 0 → ¬ TakesTurn D.Disk run pr pr n n session (Turn.Stopped 1) }
@@ -116,6 +120,7 @@ pub fn law_turn_examples<D: Disk>()
     ensures may_not_go_on { (run : Run) (old new : PrimaryView D) (n : NodeView) (turn : Turn) → new.book.sessions.items ≡ session_with 0 (Stage.Outside None) [] ∷ [] → ¬ TakesTurn D.Disk run old new n n (Some 0) turn }
     ensures tells_still { (run : Run) (old new : PrimaryView D) (n : NodeView) (session : Option ℕ) (turn : Turn) → D.tells old.media.log.disk ≡ true → D.tells new.media.log.disk ≡ false → ¬ TakesTurn D.Disk run old new n n session turn }
     ensures no_room { (run : Run) (pr : PrimaryView D) (n : NodeView) (s : Session) (line : Line) → pr.book.answers.spare ≡ 0 → ¬ ComesTo D.Disk run pr n 1 s line }
+    ensures no_room_to_stop { (run : Run) (pr : PrimaryView D) (n : NodeView) (s : Session) (line : Line) → pr.book.answers.spare ≡ 0 → ¬ ComesToStop D.Disk run pr n 1 s line }
     ensures tries_down { (run : Run) (pr : PrimaryView D) (n : NodeView) (stmt : Stmt) → pr.down ≡ 1 → ¬ TriesAt D.Disk run pr n 1 its_begun stmt }
 {}
 
@@ -144,7 +149,7 @@ pub fn law_outside_examples<D: Disk>()
     ensures has_ended { (pr : PrimaryView D) (trx : Begun) → pr.book.sessions.items ≡ session_with 1 (Stage.Outside None) [] ∷ [] → ¬ HasOpenStill pr 0 trx }
     ensures stands_outside { (pr : PrimaryView D) → pr.book.sessions.items ≡ session_with 1 (Stage.Outside None) [] ∷ [] → StandsOutside pr 0 None }
     ensures stands_inside { (pr : PrimaryView D) (trx : Option Begun) → pr.book.sessions.items ≡ session_with 1 (Stage.Open its_begun) [] ∷ [] → ¬ StandsOutside pr 0 trx }
-    ensures calls { (run : Run) (pr : PrimaryView D) (n : NodeView) → StandsWith D.Disk run pr n → CallsOutside D.Disk run pr pr n n 0 }
+    ensures calls { (run : Run) (pr : PrimaryView D) (n : NodeView) → StandsWith D.Disk run pr n → IsDownAsTold pr n → CallsOutside D.Disk run pr pr n n 0 }
     ensures calls_answer { (run : Run) (old new : PrimaryView D) (n : NodeView) (a : Answer) → old.book.answers.items ≡ [] → new.book.answers.items ≡ a ∷ [] → ¬ CallsOutside D.Disk run old new n n 0 }
     ensures calls_another { (run : Run) (old new : PrimaryView D) (n : NodeView) → old.book.sessions.items ≡ [] → new.book.sessions.items ≡ session_with 1 (Stage.Open its_begun) [] ∷ [] → ¬ CallsOutside D.Disk run old new n n 1 }
     ensures stays_up { (old new : PrimaryView D) → old.number ≡ 1 → new.down ≡ 0 → ¬ WentDownHere D.Disk old new }
@@ -153,5 +158,6 @@ pub fn law_outside_examples<D: Disk>()
     ensures committed_none { (old new : PrimaryView D) → new.down ≡ 0 → new.book.sessions.items ≡ session_with 1 (Stage.Outside None) [] ∷ [] → EndsAs D.Disk old new 0 its_begun ends.None }
     ensures not_stopped { (old new : PrimaryView D) → old.number ≡ 1 → new.down ≡ 0 → ¬ EndsAs D.Disk old new 0 its_begun ends.Stopped }
     ensures not_rolled_back { (pr : PrimaryView D) (n : NodeView) → pr.book.sessions.items ≡ session_with 1 (Stage.Outside (Some its_begun)) [] ∷ [] → ¬ RollsBackAs D.Disk pr pr n n 0 its_begun (Ok tt) }
-    ensures stopped_by_another { (pr : PrimaryView D) (n : NodeView) → pr.number ≡ 1 → ¬ RollsBackAs D.Disk pr pr n n 0 its_begun (Err (refusals.Stopped 2)) }
+    ensures stopped_by_another { (old new : PrimaryView D) (before after : NodeView) → new.down ≡ 1 → ¬ RollsBackAs D.Disk old new before after 0 its_begun (Err (refusals.Stopped 2)) }
+    ensures stopped_up { (old new : PrimaryView D) (before after : NodeView) → old.number ≡ 1 → new.down ≡ 0 → ¬ RollsBackAs D.Disk old new before after 0 its_begun (Err (refusals.Stopped 0)) }
 {}

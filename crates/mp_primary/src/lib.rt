@@ -7,6 +7,8 @@ mod beginning;
 mod closing;
 mod ending;
 mod going_back;
+mod heeding;
+mod heeding_examples;
 mod holders;
 mod laws;
 mod outside;
@@ -20,6 +22,7 @@ mod writing;
 mod writing_examples;
 
 pub use ending::law_commit_end_examples;
+pub use heeding_examples::{law_follow_examples, law_load_examples, law_need_examples};
 pub use laws::{
     law_answering_examples, law_outside_examples, law_primary_examples, law_task_examples,
     law_turn_examples, law_work_examples,

@@ -11,15 +11,17 @@ ghost use Rattle.mp_shared.specs.Nodes.{Run, first_node};
 ghost use Rattle.mp_supports.specs.Work.{Work};
 ghost use Rattle.mp_supports.specs.Kept.{Entry, answers_in};
 ghost use Rattle.mp_primary.specs.Primaries.{PrimaryView, IsPrimary, IsFirstLog, PrimaryAgrees, PrimaryAgreesIn};
+ghost use Rattle.mp_primary.specs.Answering.{has_no_line, have_no_line};
+ghost use Rattle.mp_primary.specs.Downs.{IsDownAsTold};
 ghost use Rattle.mp_primary.specs.Turns.{MayTakeTurn};
 
-use mp_book::Book;
+use mp_book::{Book, Session};
 use mp_core_trx::Base;
 use mp_desk::{Desk, Media};
 use mp_log::Log;
 use mp_model::{Answers, Memory, Names, TrxName};
 use mp_outside::Disk;
-use mp_script::{Line, Script, Stmt};
+use mp_script::{Line, Script, SessionOn, Sessions, Stmt};
 use std::alloc::Global;
 use std::marker::Model;
 use std::snapshot::Snapshot;
@@ -33,6 +35,8 @@ pub struct Primary<D: Disk> {
     pub(crate) base: Base,
     /// The transactions, by their versions.
     pub(crate) names: Names,
+    /// Where the script's sessions are declared.
+    pub(crate) places: Sessions,
     pub(crate) book: Book,
     pub(crate) desk: Desk,
     pub(crate) media: Media<D>,
@@ -45,7 +49,7 @@ impl<D: Disk> Model for Primary<D> {
 
     ghost Value = { PrimaryView D };
 
-    ghost view = { λ p. record { number = p.number; work = record { lines = p.script.value.lines.items; sessions = p.script.value.sessions.items; base = p.base }; names = p.names.items; book = p.book; desk = p.desk; media = p.media; down = p.down } };
+    ghost view = { λ p. record { number = p.number; work = record { lines = p.script.value.lines.items; sessions = p.script.value.sessions.items; base = p.base }; names = p.names.items; places = p.places.items; book = p.book; desk = p.desk; media = p.media; down = p.down } };
 }
 
 /// A log whose primary couldn't be made, for want of memory. It is as it was.
@@ -65,7 +69,8 @@ pub struct Ended<D: Disk> {
 impl<D: Disk> Primary<D> {
     /// A primary of a script (of at most 10,000 statements) that has answered nothing, over a base and its log, in which
     /// nothing is appended and no mtr is above the base LLSN. It agrees with the part of its number of a table that is
-    /// opened with this base for the script's transactions. `Unmade` only for want of memory; it hands the log back.
+    /// opened with this base for the script's transactions, and its down word there says that it is up. `Unmade` only for want
+    /// of memory; it hands the log back.
     pub fn new(
         alloc: Global,
         number: u8,
@@ -84,9 +89,13 @@ impl<D: Disk> Primary<D> {
         ensures primary { IfOk result IsPrimary }
         ensures sessions { IfOk result (λ pr. (number : ℕ) → number < 65 → MayTakeTurn pr number) }
         ensures agrees { IfOk result (λ pr. (run : Run) → IsNode run.opening.trx number → run.opening.trx.base ≡ base → run.opening.trx.begins ≡ length (begin_names script.now.lines.items) → PrimaryAgreesIn D.Disk pr [] (first_node run)) }
+        ensures told { IfOk result (λ pr. (run : Run) → IsNode run.opening.trx number → IsDownAsTold pr (first_node run)) }
         ensures unmade { IfErr result (λ unmade. unmade.log ≡ log) }
     {
         let Ok(names) = begin_names(alloc, script.lines.as_slice()) else {
+            return Err(Unmade { log });
+        };
+        let Ok(places) = places_of(alloc, script.sessions.as_slice()) else {
             return Err(Unmade { log });
         };
         let Ok(book) = Book::new(alloc, script, number) else {
@@ -101,6 +110,7 @@ impl<D: Disk> Primary<D> {
             script: Snapshot::of(script),
             base,
             names,
+            places,
             book,
             desk,
             media: Media {
@@ -130,6 +140,13 @@ impl<D: Disk> Primary<D> {
         ensures { result ≡ length self.now.book.answers.items }
     {
         self.book.answers.len()
+    }
+
+    /// Whether no statement of its sessions is left. A transaction may be open still.
+    pub fn is_answered(&self) -> bool
+        ensures { result ≡ have_no_line self.now.book.sessions.items }
+    {
+        are_answered(&self.book.sessions)
     }
 
     /// Ends the primary: its answers, all of them and in their order, and the disk of its log. It takes no memory.
@@ -165,6 +182,30 @@ fn begin_names(alloc: Global, lines: &[Line]) -> Result<Names, Memory>
         }
     }
     Ok(names)
+}
+
+// The sessions, each with the primary that it is declared on.
+fn places_of(alloc: Global, sessions: &[SessionOn]) -> Result<Sessions, Memory>
+    ensures { IfOk result (λ places. places.items ≡ sessions.now) }
+{
+    let mut places = Sessions::new(alloc);
+    for session in sessions {
+        places.push(*session)?;
+    }
+    Ok(places)
+}
+
+// Whether none of the sessions has a statement left.
+fn are_answered(sessions: &[Session]) -> bool
+    ensures { result ≡ have_no_line sessions.now }
+{
+    sessions.iter().all(|session| is_answered(session))
+}
+
+fn is_answered(session: &Session) -> bool
+    ensures { result ≡ has_no_line session.now }
+{
+    session.next_line().is_none()
 }
 
 fn is_begin(stmt: &Stmt) -> bool

@@ -7,7 +7,8 @@ ghost use Rattle.mp_book.specs.declared.session.Session.{Session};
 ghost use Rattle.mp_shared.specs.Nodes.{NodeView};
 ghost use Rattle.mp_supports.specs.Supports.{no_trace, looked_trace};
 ghost use Rattle.mp_primary.specs.Primaries.{PrimaryView};
-ghost use Rattle.mp_primary.specs.Turns.{TakesTurn, ComesTo};
+ghost use Rattle.mp_primary.specs.Turns.{ComesTo};
+ghost use Rattle.mp_primary.specs.Tries.{TriesTurn};
 ghost use Rattle.mp_primary.specs.AtWork.{IsAtWork};
 ghost use Rattle.mp_primary.specs.Reads.{FindsReply, StopsReading};
 
@@ -27,7 +28,7 @@ impl<D: Disk> Primary<D> {
         reply: Reply,
     ) -> Turn
         requires work { (old : PrimaryView D) × (before : NodeView) × (s : Session) × (line : Line) × (pages : List (GivenPage PageView)) × ComesTo D.Disk shared.now old before number s line × IsAtWork D.Disk shared.now old self.old before node.old (looked_trace pages) × FindsReply old before node.old s line reply pages }
-        ensures { (old : PrimaryView D) (before : NodeView) (s : Session) (line : Line) (pages : List (GivenPage PageView)) → ComesTo D.Disk shared.now old before number s line → IsAtWork D.Disk shared.now old self.old before node.old (looked_trace pages) → FindsReply old before node.old s line reply pages → TakesTurn D.Disk shared.now old self.new before node.new (Some number) result }
+        ensures { (old : PrimaryView D) (before : NodeView) (s : Session) (line : Line) (pages : List (GivenPage PageView)) → ComesTo D.Disk shared.now old before number s line → IsAtWork D.Disk shared.now old self.old before node.old (looked_trace pages) → FindsReply old before node.old s line reply pages → TriesTurn D.Disk shared.now old self.new before node.new (Some number) result }
     {
         if let Err(_failed) = self.clear_desk(shared, node) {
             return self.stop_now(number, None);
@@ -45,7 +46,7 @@ impl<D: Disk> Primary<D> {
         halt: ReadHalt,
     ) -> Turn
         requires work { (old : PrimaryView D) × (before : NodeView) × (s : Session) × (line : Line) × ComesTo D.Disk shared.now old before number s line × IsAtWork D.Disk shared.now old self.old before node.old no_trace × StopsReading old before node.old s halt }
-        ensures { (old : PrimaryView D) (before : NodeView) (s : Session) (line : Line) → ComesTo D.Disk shared.now old before number s line → IsAtWork D.Disk shared.now old self.old before node.old no_trace → StopsReading old before node.old s halt → TakesTurn D.Disk shared.now old self.new before node.new (Some number) result }
+        ensures { (old : PrimaryView D) (before : NodeView) (s : Session) (line : Line) → ComesTo D.Disk shared.now old before number s line → IsAtWork D.Disk shared.now old self.old before node.old no_trace → StopsReading old before node.old s halt → TriesTurn D.Disk shared.now old self.new before node.new (Some number) result }
     {
         match halt {
             ReadHalt::Word(wait) => self.wait(shared, node, number, Cause::Word(wait)),

@@ -6,7 +6,9 @@ ghost use Rattle.mp_script.specs.declared.statements.Stmt.TheVariants.{Get, Copy
 ghost use Rattle.mp_book.specs.declared.session.Session.{Session};
 ghost use Rattle.mp_book.specs.Books.{IsNext};
 ghost use Rattle.mp_primary.specs.Primaries.{StandsWith};
+ghost use Rattle.mp_primary.specs.Downs.{IsDownAsTold};
 ghost use Rattle.mp_primary.specs.Turns.{TakesTurn, ComesTo, TriesAt, IsPutStatement, IsTakenBack, MayLeave};
+ghost use Rattle.mp_primary.specs.Tries.{TriesTurn};
 
 use crate::ending::reply_at_end;
 use crate::going_back::trx_at;
@@ -30,7 +32,7 @@ impl<D: Disk> Primary<D> {
         steps: &mut Steps<L>,
     ) -> Turn
         requires tries { TriesAt D.Disk shared.now self.old node.old number trx (Get key) }
-        ensures { TakesTurn D.Disk shared.now self.old self.new node.old node.new (Some number) result }
+        ensures { TriesTurn D.Disk shared.now self.old self.new node.old node.new (Some number) result }
     {
         match self.desk.get(shared, node, self.number, trx, key, steps) {
             Ok(value) => self.answer_read(shared, node, number, Reply::Got(value)),
@@ -50,7 +52,7 @@ impl<D: Disk> Primary<D> {
         steps: &mut Steps<L>,
     ) -> Result<Turn, Memory>
         requires tries { TriesAt D.Disk shared.now self.old node.old number trx (Scan low most) }
-        ensures turn { IfOk result (TakesTurn D.Disk shared.now self.old self.new node.old node.new (Some number)) }
+        ensures turn { IfOk result (TriesTurn D.Disk shared.now self.old self.new node.old node.new (Some number)) }
         ensures memory { OnErr result ((node.new ≡ node.old) × (self.new ≡ self.old)) }
     {
         let mut rows = Rows::new(self.alloc);
@@ -76,7 +78,7 @@ impl<D: Disk> Primary<D> {
         steps: &mut Steps<L>,
     ) -> Turn
         requires tries { (stmt : Stmt) × TriesAt D.Disk shared.now self.old node.old number trx stmt × IsPutStatement stmt verb key value }
-        ensures { TakesTurn D.Disk shared.now self.old self.new node.old node.new (Some number) result }
+        ensures { TriesTurn D.Disk shared.now self.old self.new node.old node.new (Some number) result }
     {
         let own = self.number;
         let done = self
@@ -97,7 +99,7 @@ impl<D: Disk> Primary<D> {
         steps: &mut Steps<L>,
     ) -> Turn
         requires tries { TriesAt D.Disk shared.now self.old node.old number trx (Copy from to) }
-        ensures { TakesTurn D.Disk shared.now self.old self.new node.old node.new (Some number) result }
+        ensures { TriesTurn D.Disk shared.now self.old self.new node.old node.new (Some number) result }
     {
         let own = self.number;
         match self.desk.get(shared, node, own, trx, from, steps) {
@@ -121,7 +123,7 @@ impl<D: Disk> Primary<D> {
         trx: Begun,
     ) -> Turn
         requires tries { TriesAt D.Disk shared.now self.old node.old number trx Commit }
-        ensures { TakesTurn D.Disk shared.now self.old self.new node.old node.new (Some number) result }
+        ensures { TriesTurn D.Disk shared.now self.old self.new node.old node.new (Some number) result }
     {
         let end = self.end_by_commit(shared, node, number, trx);
         let reply = reply_at_end(self.down, end);
@@ -140,7 +142,7 @@ impl<D: Disk> Primary<D> {
     ) -> Turn
         requires comes { (s : Session) × (line : Line) × ComesTo D.Disk shared.now self.old node.old number s line × IsTakenBack s.stage }
         requires up { self.old.down ≡ 0 }
-        ensures { TakesTurn D.Disk shared.now self.old self.new node.old node.new (Some number) result }
+        ensures { TriesTurn D.Disk shared.now self.old self.new node.old node.new (Some number) result }
     {
         let place = number as usize;
         let Some(trx) = trx_at(self.book.sessions[place].stage) else {
@@ -155,7 +157,8 @@ impl<D: Disk> Primary<D> {
         }
     }
 
-    // Rolls back, unprinted, the transaction of a session that has no statement left.
+    // Rolls back, unprinted, the transaction of a session that has no statement left. Where it waits, the primary looks at those
+    // of whom it needs something.
     pub(crate) fn leave<L: Ledger>(
         &mut self,
         shared: &Shared,
@@ -164,12 +167,33 @@ impl<D: Disk> Primary<D> {
         steps: &mut Steps<L>,
     ) -> Turn
         requires stands { StandsWith D.Disk shared.now self.old node.old }
+        requires told { IsDownAsTold self.old node.old }
         requires session { MayLeave self.old number }
         ensures { TakesTurn D.Disk shared.now self.old self.new node.old node.new (Some number) result }
     {
         if self.down != 0 {
             return Turn::Stopped(self.down);
         }
+        let turn = self.leave_now(shared, node, number, steps);
+        if self.heed(shared, node, turn) {
+            return Turn::Stopped(self.down);
+        }
+        turn
+    }
+
+    // Tries to roll it back, of a primary that is up.
+    fn leave_now<L: Ledger>(
+        &mut self,
+        shared: &Shared,
+        node: &mut Node,
+        number: u8,
+        steps: &mut Steps<L>,
+    ) -> Turn
+        requires stands { StandsWith D.Disk shared.now self.old node.old }
+        requires up { self.old.down ≡ 0 }
+        requires session { MayLeave self.old number }
+        ensures { TriesTurn D.Disk shared.now self.old self.new node.old node.new (Some number) result }
+    {
         let place = number as usize;
         let Some(trx) = trx_at(self.book.sessions[place].stage) else {
             self.close(number);

@@ -6,8 +6,10 @@ ghost use Rattle.mp_book.specs.declared.stage.Task.TheVariants.{Nothing};
 ghost use Rattle.mp_book.specs.Stages.{task_of};
 ghost use Rattle.mp_shared.specs.Nodes.{Run, NodeView};
 ghost use Rattle.mp_supports.specs.Kept.{Entry};
-ghost use Rattle.mp_primary.specs.Primaries.{StandsWith, PrimaryAgreesIn};
+ghost use Rattle.mp_primary.specs.Primaries.{PrimaryView, StandsWith, PrimaryAgreesIn};
+ghost use Rattle.mp_primary.specs.Downs.{IsDownAsTold};
 ghost use Rattle.mp_primary.specs.Turns.{MayTakeTurn, TakesTurn, IsSessionOf, ComesTo, TriesAt};
+ghost use Rattle.mp_primary.specs.Tries.{TriesTurn, TriedLine};
 
 use crate::primary::Primary;
 use mp_book::{Stage, Task};
@@ -23,9 +25,11 @@ impl<D: Disk> Primary<D> {
     /// with no session it has nothing to do. It stands with a node that has its part, and no call outside a turn was made
     /// for the session. `Answered` adds the answer of that statement, or ends the rollback; no other turn adds an answer.
     /// `Waiting` tells the word that a call read, or the writer of a row, for which the statement waits. `Done` exactly
-    /// where the primary isn't down and nothing is left; `Stopped` exactly where it is down and has nothing to answer. Its
-    /// log's disk alone takes it down. `Memory` only for want of memory, before the turn's first step: nothing changed. A next
-    /// turn may be taken for the session.
+    /// where the primary isn't down and nothing is left; `Stopped` exactly where it is down and has nothing to answer. It goes
+    /// down where its log's disk fails, with its own number, or where its statement waits for something of a primary that is
+    /// down, with that one's number: the statement is answered `stopped` then. Its down word holds the number. A primary that is
+    /// down stays so, and holds what it held. `Memory` only for want of memory, before the turn's first step: nothing changed. A
+    /// next turn may be taken for the session.
     pub fn turn<L: Ledger>(
         &mut self,
         shared: &Shared,
@@ -34,6 +38,7 @@ impl<D: Disk> Primary<D> {
         steps: &mut Steps<L>,
     ) -> Result<Turn, Memory>
         requires stands { StandsWith D.Disk shared.now self.old node.old }
+        requires told { IsDownAsTold self.old node.old }
         requires session { IfSome session (MayTakeTurn self.old) }
         ensures turn { IfOk result (TakesTurn D.Disk shared.now self.old self.new node.old node.new session) }
         ensures memory { OnErr result ((node.new ≡ node.old) × StandsWith D.Disk shared.now self.new node.new) }
@@ -50,7 +55,7 @@ impl<D: Disk> Primary<D> {
 
     // What a turn with no session comes to.
     fn rest(&self) -> Turn
-        ensures { (run : Run) (n : NodeView) → StandsWith D.Disk run self.now n → TakesTurn D.Disk run self.now self.now n n None result }
+        ensures { (run : Run) (n : NodeView) → StandsWith D.Disk run self.now n → IsDownAsTold self.now n → TakesTurn D.Disk run self.now self.now n n None result }
     {
         if self.down != 0 {
             return Turn::Stopped(self.down);
@@ -64,7 +69,7 @@ impl<D: Disk> Primary<D> {
 
     // What a turn of a session comes to that has nothing to do.
     fn nothing_left(&self) -> Turn
-        ensures { (run : Run) (n : NodeView) (number : ℕ) (s : Session) → StandsWith D.Disk run self.now n → IsSessionOf self.now number s → task_of s ≡ Nothing → MayTakeTurn self.now number → TakesTurn D.Disk run self.now self.now n n (Some number) result }
+        ensures { (run : Run) (n : NodeView) (number : ℕ) (s : Session) → StandsWith D.Disk run self.now n → IsDownAsTold self.now n → IsSessionOf self.now number s → task_of s ≡ Nothing → MayTakeTurn self.now number → TakesTurn D.Disk run self.now self.now n n (Some number) result }
     {
         if self.down != 0 {
             Turn::Stopped(self.down)
@@ -82,6 +87,7 @@ impl<D: Disk> Primary<D> {
         steps: &mut Steps<L>,
     ) -> Result<Turn, Memory>
         requires stands { StandsWith D.Disk shared.now self.old node.old }
+        requires told { IsDownAsTold self.old node.old }
         requires session { MayTakeTurn self.old number }
         ensures turn { IfOk result (TakesTurn D.Disk shared.now self.old self.new node.old node.new (Some number)) }
         ensures memory { OnErr result ((node.new ≡ node.old) × StandsWith D.Disk shared.now self.new node.new) }
@@ -103,7 +109,7 @@ impl<D: Disk> Primary<D> {
         }
     }
 
-    // Tries a session's next statement, by the stage at which the session stands.
+    // Tries a session's next statement. A primary that is down answers it so, also one that goes down now.
     fn try_line<L: Ledger>(
         &mut self,
         shared: &Shared,
@@ -113,12 +119,46 @@ impl<D: Disk> Primary<D> {
         steps: &mut Steps<L>,
     ) -> Result<Turn, Memory>
         requires comes { (s : Session) × ComesTo D.Disk shared.now self.old node.old number s line }
+        requires told { IsDownAsTold self.old node.old }
         ensures turn { IfOk result (TakesTurn D.Disk shared.now self.old self.new node.old node.new (Some number)) }
         ensures memory { OnErr result ((node.new ≡ node.old) × (self.new ≡ self.old)) }
     {
         if self.down != 0 {
             return Ok(self.stop(number));
         }
+        match self.try_stage(shared, node, number, line, steps) {
+            Ok(turn) => Ok(self.end_line(shared, node, number, turn)),
+            Err(memory) => Err(memory),
+        }
+    }
+
+    // Ends the turn of a statement by what its try came to: where it waits, the primary looks at those of whom it needs
+    // something.
+    fn end_line(&mut self, shared: &Shared, node: &mut Node, number: u8, turn: Turn) -> Turn
+        requires tried { (old : PrimaryView D) × (before : NodeView) × (s : Session) × (line : Line) × TriedLine D.Disk shared.now old self.old before node.old number s line turn }
+        ensures { (old : PrimaryView D) (before : NodeView) (s : Session) (line : Line) → TriedLine D.Disk shared.now old self.old before node.old number s line turn → TakesTurn D.Disk shared.now old self.new before node.new (Some number) result }
+    {
+        if self.heed(shared, node, turn) {
+            self.stop(number)
+        } else {
+            turn
+        }
+    }
+
+    // Tries a session's next statement, of a primary that is up, by the stage at which the session stands.
+    fn try_stage<L: Ledger>(
+        &mut self,
+        shared: &Shared,
+        node: &mut Node,
+        number: u8,
+        line: Line,
+        steps: &mut Steps<L>,
+    ) -> Result<Turn, Memory>
+        requires comes { (s : Session) × ComesTo D.Disk shared.now self.old node.old number s line }
+        requires up { self.old.down ≡ 0 }
+        ensures turn { IfOk result (TriesTurn D.Disk shared.now self.old self.new node.old node.new (Some number)) }
+        ensures memory { OnErr result ((node.new ≡ node.old) × (self.new ≡ self.old)) }
+    {
         let place = number as usize;
         match self.book.sessions[place].stage {
             Stage::Closed => Ok(self.begin_trx(shared, node, number, line)),
@@ -141,7 +181,7 @@ impl<D: Disk> Primary<D> {
         steps: &mut Steps<L>,
     ) -> Result<Turn, Memory>
         requires tries { TriesAt D.Disk shared.now self.old node.old number trx stmt }
-        ensures turn { IfOk result (TakesTurn D.Disk shared.now self.old self.new node.old node.new (Some number)) }
+        ensures turn { IfOk result (TriesTurn D.Disk shared.now self.old self.new node.old node.new (Some number)) }
         ensures memory { OnErr result ((node.new ≡ node.old) × (self.new ≡ self.old)) }
     {
         match stmt {

@@ -8,7 +8,8 @@ ghost use Rattle.mp_shared.specs.Nodes.{Run, NodeView};
 ghost use Rattle.mp_desk.specs.declared.halts.WriteHalt.TheVariants as halts;
 ghost use Rattle.mp_desk.specs.Writes.{HaltsWrite};
 ghost use Rattle.mp_primary.specs.Primaries.{PrimaryView};
-ghost use Rattle.mp_primary.specs.Turns.{TakesTurn, IsSessionOf};
+ghost use Rattle.mp_primary.specs.Turns.{IsSessionOf};
+ghost use Rattle.mp_primary.specs.Tries.{TriesTurn};
 ghost use Rattle.mp_primary.specs.WriteTurns.{IsHeldUp, HasPutRow, AfterWrite, IsRightRefusal, first_row};
 
 use crate::holders::has_row_of;
@@ -39,7 +40,7 @@ impl<D: Disk> Primary<D> {
             × AfterWrite D.Disk shared.now old self.old before node.old number trx verb key done }
         ensures { (old : PrimaryView D) (before : NodeView)
             → AfterWrite D.Disk shared.now old self.old before node.old number trx verb key done
-            → TakesTurn D.Disk shared.now old self.new before node.new (Some number) result }
+            → TriesTurn D.Disk shared.now old self.new before node.new (Some number) result }
     {
         match done {
             Ok(former) => self.answer_write(shared, node, number, verb, key, former),
@@ -62,7 +63,7 @@ impl<D: Disk> Primary<D> {
             × AfterWrite D.Disk shared.now old self.old before node.old number trx verb key (Err halt) }
         ensures { (old : PrimaryView D) (before : NodeView) (verb : WriteVerb)
             → AfterWrite D.Disk shared.now old self.old before node.old number trx verb key (Err halt)
-            → TakesTurn D.Disk shared.now old self.new before node.new (Some number) result }
+            → TriesTurn D.Disk shared.now old self.new before node.new (Some number) result }
     {
         match halt {
             WriteHalt::Word(wait) => self.wait(shared, node, number, Cause::Word(wait)),
@@ -93,7 +94,7 @@ impl<D: Disk> Primary<D> {
             × HasPutRow D.Disk shared.now old self.old before node.old number trx verb key former }
         ensures { (old : PrimaryView D) (before : NodeView) (trx : Begun)
             → HasPutRow D.Disk shared.now old self.old before node.old number trx verb key former
-            → TakesTurn D.Disk shared.now old self.new before node.new (Some number) result }
+            → TriesTurn D.Disk shared.now old self.new before node.new (Some number) result }
     {
         let first = self.first_of(number, key, former);
         if let Err(_failed) = self.clear_desk(shared, node) {
@@ -119,7 +120,7 @@ impl<D: Disk> Primary<D> {
         ensures { (old : PrimaryView D) (before : NodeView) (trx : Begun) (verb : WriteVerb)
             → IsHeldUp D.Disk shared.now old self.old before node.old number trx verb key
             → HaltsWrite old.number trx key before node.old (halts.Writer id)
-            → TakesTurn D.Disk shared.now old self.new before node.new (Some number) result }
+            → TriesTurn D.Disk shared.now old self.new before node.new (Some number) result }
     {
         match self.holder(number, key, id) {
             Ok(name) => self.wait(shared, node, number, Cause::Writer(name)),
@@ -144,7 +145,7 @@ impl<D: Disk> Primary<D> {
         ensures { (old : PrimaryView D) (before : NodeView) (verb : WriteVerb)
             → IsHeldUp D.Disk shared.now old self.old before node.old number trx verb key
             → HaltsWrite old.number trx key before node.old (halts.Held id)
-            → TakesTurn D.Disk shared.now old self.new before node.new (Some number) result }
+            → TriesTurn D.Disk shared.now old self.new before node.new (Some number) result }
     {
         match self.holder(number, key, id) {
             Ok(name) => self.refuse_now(shared, node, number, trx, Refusal::Held(name), steps),
@@ -170,7 +171,7 @@ impl<D: Disk> Primary<D> {
         ensures { (old : PrimaryView D) (before : NodeView) (verb : WriteVerb)
             → IsHeldUp D.Disk shared.now old self.old before node.old number trx verb key
             → HaltsWrite old.number trx key before node.old (halts.Conflict id cts)
-            → TakesTurn D.Disk shared.now old self.new before node.new (Some number) result }
+            → TriesTurn D.Disk shared.now old self.new before node.new (Some number) result }
     {
         match self.committer(number, id) {
             Ok(()) => self.refuse_now(shared, node, number, trx, Refusal::Conflict(cts), steps),
@@ -194,7 +195,7 @@ impl<D: Disk> Primary<D> {
         ensures { (old : PrimaryView D) (before : NodeView) (verb : WriteVerb) (key : ℕ)
             (held : IsHeldUp D.Disk shared.now old self.old before node.old number trx verb key)
             → IsRightRefusal old node.old held.tries.line refusal
-            → TakesTurn D.Disk shared.now old self.new before node.new (Some number) result }
+            → TriesTurn D.Disk shared.now old self.new before node.new (Some number) result }
     {
         if let Err(_failed) = self.clear_desk(shared, node) {
             return self.stop_now(number, None);

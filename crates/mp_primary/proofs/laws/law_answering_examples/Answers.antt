@@ -1,6 +1,5 @@
-use Rattle.std.proofs.Common.{◌≡◌, ℕ, ◌+◌, ◌<◌, List, [], ◌∷◌, ◌++◌, length, slice_get, None, Some, refl, sym, ap, ◌∙◌, inl, arith}
+use Rattle.std.proofs.Common.{◌≡◌, ℕ, ◌<◌, List, [], ◌∷◌, ◌++◌, length, slice_get, Some, refl, sym, ap, ◌∙◌, inl, arith}
 use Rattle.std.proofs.lemmas.List.{length-append}
-use Rattle.mp_model.specs.declared.ids.TrxName.{TrxName}
 use Rattle.mp_model.specs.declared.replies.Answer.{Answer}
 use Rattle.mp_model.specs.declared.replies.Reply.TheVariants.{Began, Wrote, CommittedNone}
 use Rattle.mp_model.specs.declared.replies.WriteVerb.TheVariants.{Put}
@@ -43,7 +42,7 @@ returns-clause-its_answer c = λ pr is. record {
   answer = answered_as 2 (Wrote Put);
   of_session = refl;
   index = refl;
-  waits = refl;
+  waits = inl refl;
   entry = record { answer = Some (answered_as 2 (Wrote Put)); trace = no_trace };
   has = refl;
   one = refl;

@@ -1,7 +1,6 @@
-use Rattle.std.proofs.Common.{◌≡◌, ℕ, ◌≤◌, List, [], ◌∷◌, slice_get, Option, None, Some, refl, sym, ap, subst, ◌∙◌, inl, inr, arith, append-nil}
+use Rattle.std.proofs.Common.{◌≡◌, List, [], ◌∷◌, slice_get, None, Some, refl, sym, ap, subst, ◌∙◌, inl, inr, arith, append-nil}
 use Rattle.mp_machine.specs.Lists.{IsIn}
 use Rattle.mp_cells.specs.declared.records.Mtr.{Mtr}
-use Rattle.mp_core_trx.specs.declared.part.Begun.{Begun}
 use Rattle.mp_book.specs.declared.session.Session.{Session}
 use Rattle.mp_book.specs.declared.stage.Stage.TheVariants.{Closed, Open, Outside}
 use Rattle.mp_book.specs.SmallBooks.{its_begun, session_with, row_seven}
@@ -9,7 +8,9 @@ use Rattle.mp_book.specs.Stages.{HaveOneRowEach}
 use Rattle.mp_log.specs.Logs.{mtrs_of}
 use Rattle.mp_script.proofs.Options.{not_some}
 use Rattle.mp_supports.specs.Kept.{Entry}
-use Rattle.mp_desk.proofs.Moving.{goes_none}
+use Rattle.mp_supports.proofs.Extending.{core_extends_refl}
+use Rattle.mp_core.specs.CoreExtends.{CoreExtends}
+use Rattle.mp_primary.proofs.OnlyDowns.{went_none}
 use Rattle.mp_primary.specs.Primaries.{PrimaryAgrees}
 use Rattle.mp_primary.specs.SmallPrimaries.{gate_alone}
 use Rattle.mp_primary.proofs.OpenSessions.{one_of}
@@ -58,14 +59,15 @@ pub returns-clause-stands_inside : goal.returns-clause-stands_inside
 returns-clause-stands_inside g c = λ pr trx is h. open_not_outside its_begun trx (same_stage pr.book.sessions.items (session_with 1 (Open its_begun) []) h.0 is h.1 ∙ h.2)
 
 pub returns-clause-calls : goal.returns-clause-calls
-returns-clause-calls g c = λ run pr n stands. record {
+returns-clause-calls g c = λ run pr n stands told. record {
   stands = stands;
   number = refl;
   work = refl;
   answers = refl;
-  went = goes_none pr.number n;
+  went = went_none pr.number CoreExtends core_extends_refl n;
   goes_on = λ entries agrees. ([], tt, λ q has. subst (λ (l : List Entry). PrimaryAgrees g.D.Disk pr l q) (sym (append-nil entries)) (agrees q has));
   others = λ other ne. refl;
+  told = told;
   faults = omega arith;
   tells = refl;
 }
@@ -101,4 +103,10 @@ returns-clause-not_rolled_back g c = λ pr n is h.
     something_is_none its_begun (outside_is (Some its_begun) None (same_stage pr.book.sessions.items (session_with 1 (Outside (Some its_begun)) []) outside.0 is outside.1 ∙ outside.2))
 
 pub returns-clause-stopped_by_another : goal.returns-clause-stopped_by_another
-returns-clause-stopped_by_another g c = λ pr n one h. let by = h.1 in absurd (omega (arith, one, by))
+returns-clause-stopped_by_another g c = λ old new before after one h. let by = h.0 in absurd (omega (arith, one, by))
+
+pub returns-clause-stopped_up : goal.returns-clause-stopped_up
+returns-clause-stopped_up g c = λ old new before after one up h. elim h.1 [
+  | inl here ↦ let down = here.0 in absurd (omega (arith, one, up, down))
+  | inr other ↦ other.3.some up
+]

@@ -1,5 +1,4 @@
-use Rattle.std.proofs.Common.{◌≡◌, ℕ, [], ◌∷◌, None, Some, refl, sym, ap, ◌∙◌, inl, inr, arith}
-use Rattle.mp_model.specs.declared.ids.TrxName.{TrxName}
+use Rattle.std.proofs.Common.{[], ◌∷◌, refl, sym, ap, ◌∙◌, inl, inr}
 use Rattle.mp_core_trx.specs.Parts.{begun_of}
 use Rattle.mp_book.specs.declared.session.Session.{Session}
 use Rattle.mp_book.specs.SmallBooks.{its_begun}
@@ -10,13 +9,10 @@ use Rattle.mp_primary.proofs.SmallPrimaries.{not_false, one_is_none, something_i
 use Rattle.mp_primary.proofs.laws.law_primary_examples.Goals as goal
 
 pub returns-clause-down : goal.returns-clause-down
-returns-clause-down g c = λ pr some h. record { book = h.book; names = h.names; own = h.own; up = λ zero. absurd (some zero); down = inr (refl, some) }
+returns-clause-down g c = λ pr by some h. record { book = h.book; names = h.names; places = h.places; own = h.own; up = λ zero. absurd (some zero) }
 
-pub returns-clause-not_another : goal.returns-clause-not_another
-returns-clause-not_another g c = λ pr one two h. elim h.down [
-  | inl zero ↦ absurd (omega (arith, zero, two))
-  | inr own ↦ let same = own.0 in absurd (omega (arith, same, one, two))
-]
+pub returns-clause-declared_elsewhere : goal.returns-clause-declared_elsewhere
+returns-clause-declared_elsewhere g c = λ pr none one h. one_is_none (record { session = 1; primary = 1 }) [] (sym one ∙ sym h.places ∙ none)
 
 pub returns-clause-none_open : goal.returns-clause-none_open
 returns-clause-none_open g c = λ b there opened. absurd there

@@ -1,16 +1,18 @@
-use Rattle.std.proofs.Common.{◌≡◌, ℕ, ◌<◌, List, [], ◌∷◌, ◌++◌, slice_get, None, refl, sym, ap, subst, ◌∙◌, arith, append-nil}
+use Rattle.std.proofs.Common.{List, [], slice_get, None, refl, sym, ap, subst, ◌∙◌, arith, append-nil}
 use Rattle.mp_book.specs.declared.session.Session.{Session}
 use Rattle.mp_book.specs.declared.stage.Stage.TheVariants.{Outside}
 use Rattle.mp_book.specs.SmallBooks.{session_with}
 use Rattle.mp_supports.specs.Kept.{Entry, answers_in}
 use Rattle.mp_primary.specs.Primaries.{PrimaryAgrees}
 use Rattle.mp_primary.proofs.OpenSessions.{one_of}
+use Rattle.mp_model.specs.declared.waiting.Turn.TheVariants.{Done}
 use Rattle.mp_primary.proofs.QuietTurns.{done_turn}
+use Rattle.mp_primary.proofs.TakenTurns.{taken_still}
 use Rattle.mp_primary.proofs.SmallPrimaries.{not_false, one_is_none}
 use Rattle.mp_primary.proofs.laws.law_turn_examples.Goals as goal
 
 pub returns-clause-done : goal.returns-clause-done
-returns-clause-done g c = λ run pr n session stands up nothing may. done_turn g.D.Disk run pr n stands session may up nothing
+returns-clause-done g c = λ run pr n session stands told up nothing may. taken_still g.D.Disk run pr pr n session Done stands told (done_turn g.D.Disk run pr n stands session may up nothing) refl tt
 
 pub returns-clause-not_done : goal.returns-clause-not_done
 returns-clause-not_done g c = λ run pr n session down h. let up = (h.done.0 refl).0 in absurd (omega (arith, up, down))
@@ -42,6 +44,9 @@ returns-clause-tells_still g c = λ run old new n session turn told silent h. no
 
 pub returns-clause-no_room : goal.returns-clause-no_room
 returns-clause-no_room g c = λ run pr n s line none h. let room = h.room.answer in absurd (omega (arith, room, none))
+
+pub returns-clause-no_room_to_stop : goal.returns-clause-no_room_to_stop
+returns-clause-no_room_to_stop g c = λ run pr n s line none h. let room = h.room in absurd (omega (arith, room, none))
 
 pub returns-clause-tries_down : goal.returns-clause-tries_down
 returns-clause-tries_down g c = λ run pr n stmt down h. let up = h.up in absurd (omega (arith, up, down))

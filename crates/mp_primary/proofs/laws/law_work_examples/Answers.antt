@@ -1,4 +1,4 @@
-use Rattle.std.proofs.Common.{◌≡◌, ℕ, ◌≤◌, true, false, List, [], length, None, inl, inr, refl, sym, ap, subst, ◌∙◌, arith}
+use Rattle.std.proofs.Common.{◌≡◌, ℕ, true, false, List, [], length, None, inl, inr, refl, sym, ap, subst, ◌∙◌, arith}
 use Rattle.mp_buffer_fusion.specs.PoolExamples.{blank_buffer}
 use Rattle.mp_cells.specs.declared.records.Mtr.{Mtr}
 use Rattle.mp_core_pages.specs.declared.part.Placed.{Placed}
@@ -20,7 +20,7 @@ returns-clause-at_work g c = λ run pr n stands up. record {
   desk = stands.desk;
   own = stands.primary.own;
   log = (stands.primary.up up).0;
-  media = λ q has. subst (λ (d : ℕ). HoldsPartOf g.D.Disk pr.work d pr.media q) up (stands.agrees.1 q has).media;
+  media = λ q has. subst (λ (d : ℕ). HoldsPartOf g.D.Disk pr.work d pr.number pr.media q) up (stands.agrees.1 q has).media;
   did = moves_none pr.number (λ q r. Did q r no_trace) (λ q. did_looked q q (looked_none q)) n;
   faults = omega arith;
   tells = refl;

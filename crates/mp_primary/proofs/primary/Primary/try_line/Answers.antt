@@ -1,64 +1,36 @@
-use Rattle.std.proofs.Common.{◌≡◌, ◌<◌, length, refl, arith}
-use Rattle.std.proofs.lemmas.Grind.{common_steps}
-use Rattle.mp_book.specs.declared.stage.Stage.TheVariants.{Closed, Open, Refused, Leaving, Skipping, Outside}
-use Rattle.mp_primary.proofs.StagedTurns.{place_below, up_outside, its_stage, goes_back}
+use Rattle.std.proofs.Common.{Some, sym, ap, subst, ◌∙◌}
+use Rattle.mp_model.specs.declared.waiting.Turn.{Turn}
+use Rattle.mp_model.specs.declared.waiting.Turn.TheVariants as turns
+use Rattle.mp_primary.specs.Primaries.{PrimaryView}
+use Rattle.mp_primary.specs.Turns.{TakesTurn}
+use Rattle.mp_primary.proofs.PlainTurns.{to_stop}
+use Rattle.mp_primary.proofs.TakenTurns.{taken_still, stays_down}
 use Rattle.mp_primary.proofs.primary.Primary.try_line.Goals as goal
 
 pub returns-then-self-ne0-clause-turn : goal.returns-then-self-ne0-clause-turn
-returns-then-self-ne0-clause-turn g c = let own = c.requires.comes in c.stop.ensures c.args.shared.now c.args.node.now own.0 c.args.line own.1
-
-pub index-requires : goal.index-requires
-index-requires g c =
+returns-then-self-ne0-clause-turn g c =
     let own = c.requires.comes in
-    let below = place_below _ c.args.self.now c.self.view_is c.args.number own.0 own.1.next.found in
-    grind (arith, common_steps, below)
+    let tries = c.stop.ensures.stops c.args.shared.now c.args.node.now own.0 c.args.line (to_stop g.D.Disk c.args.shared.now c.args.self.now c.args.node.now c.args.number own.0 c.args.line own.1) in
+    subst (λ (t : Turn). TakesTurn g.D.Disk c.args.shared.now c.args.self.now c.stop.new.self c.args.node.now c.args.node.now (Some c.args.number) t) (sym c.stop.ensures.answered)
+    (taken_still g.D.Disk c.args.shared.now c.args.self.now c.stop.new.self c.args.node.now (Some c.args.number) turns.Answered own.1.stands c.requires.told tries
+    (stays_down g.D.Disk c.args.shared.now c.args.self.now c.stop.new.self c.args.node.now c.args.node.now (Some c.args.number) turns.Answered tries
+    (λ zero. c.if-self-ne0.true (ap (λ (v : PrimaryView g.row.D.Denot). v.down) c.self.view_is ∙ zero))) tt)
 
-pub begin_trx-requires-clause-comes : goal.begin_trx-requires-clause-comes
-begin_trx-requires-clause-comes g c =
-    let own = c.requires.comes in
-    (own.0, own.1, its_stage _ c.args.self.now c.self.view_is c.args.number own.0 own.1.next.found c.index.result.now c.index.ensures Closed c.in-Closed.is)
-
-pub go_on-requires : goal.go_on-requires
-go_on-requires g c =
+pub end_line-requires : goal.end_line-requires
+end_line-requires g c =
     let own = c.requires.comes in
     record {
-      tries = record {
-        session = own.0;
-        line = c.args.line;
-        comes = own.1;
-        up = up_outside _ c.args.self.now c.self.view_is c.args.number own.0 own.1.next.found c.if-self-ne0.false;
-        stage = its_stage _ c.args.self.now c.self.view_is c.args.number own.0 own.1.next.found c.index.result.now c.index.ensures (Open c.in-Open.trx) c.in-Open.is;
-        stmt_is = refl;
-      };
+      tried = (
+        c.args.self.now,
+        c.args.node.now,
+        own.0,
+        c.args.line,
+        record { comes = own.1; up = sym (ap (λ (v : PrimaryView g.row.D.Denot). v.down) c.self.view_is) ∙ c.if-self-ne0.false; told = c.requires.told; tries = c.in-Ok.ensures.turn },
+      );
     }
 
-pub take_back-requires-clause-comes : goal.take_back-requires-clause-comes
-take_back-requires-clause-comes g c =
-    let own = c.requires.comes in (
-      own.0,
-      c.args.line,
-      own.1,
-      (goes_back _ c.args.self.now c.self.view_is c.args.number own.0 own.1.next.found c.index.result.now c.index.ensures (Refused c.in-Refused.field-0 c.in-Refused.field-1) c.in-Refused.is tt, own.1.inside),
-    )
-
-pub take_back-requires-in-Leaving-clause-comes : goal.take_back-requires-in-Leaving-clause-comes
-take_back-requires-in-Leaving-clause-comes g c =
-    let own = c.requires.comes in (
-      own.0,
-      c.args.line,
-      own.1,
-      (goes_back _ c.args.self.now c.self.view_is c.args.number own.0 own.1.next.found c.index.result.now c.index.ensures (Leaving c.in-Leaving.field-0) c.in-Leaving.is tt, own.1.inside),
-    )
-
-pub skip-requires-clause-comes : goal.skip-requires-clause-comes
-skip-requires-clause-comes g c =
+pub returns-in-Ok-clause-turn : goal.returns-in-Ok-clause-turn
+returns-in-Ok-clause-turn g c =
     let own = c.requires.comes in
-    (c.args.shared.now, c.args.node.now, own.0, c.args.line, own.1, its_stage _ c.args.self.now c.self.view_is c.args.number own.0 own.1.next.found c.index.result.now c.index.ensures Skipping c.in-Skipping.is)
-
-pub unreachable-requires : goal.unreachable-requires
-unreachable-requires g c =
-    let own = c.requires.comes in
-    own.1.inside c.in-Outside.field-0 (its_stage _ c.args.self.now c.self.view_is c.args.number own.0 own.1.next.found c.index.result.now c.index.ensures (Outside c.in-Outside.field-0) c.in-Outside.is)
-
-pub returns-in-Skipping-clause-turn : goal.returns-in-Skipping-clause-turn
-returns-in-Skipping-clause-turn g c = let own = c.requires.comes in c.skip.ensures c.args.shared.now c.args.node.now own.0 c.args.line own.1
+    c.end_line.ensures c.args.self.now c.args.node.now own.0 c.args.line
+    (record { comes = own.1; up = sym (ap (λ (v : PrimaryView g.row.D.Denot). v.down) c.self.view_is) ∙ c.if-self-ne0.false; told = c.requires.told; tries = c.in-Ok.ensures.turn })

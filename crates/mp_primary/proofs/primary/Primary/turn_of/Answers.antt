@@ -1,7 +1,7 @@
-use Rattle.std.proofs.Common.{◌≡◌, ◌<◌, length, refl}
+use Rattle.std.proofs.Common.{refl}
 use Rattle.mp_book.specs.declared.stage.Task.TheVariants.{Statement, Unprinted, Nothing}
 use Rattle.mp_primary.proofs.StagedTurns.{place_below, its_task, next_stated}
-use Rattle.mp_primary.proofs.RoomedTurns.{if_ok_map, on_err_map, roomed_stands, roomed_kept, roomed_comes, roomed_turn, roomed_stays, roomed_still, roomed_same, roomed_may, roomed_sessions}
+use Rattle.mp_primary.proofs.RoomedTurns.{if_ok_map, on_err_map, roomed_stands, roomed_kept, roomed_comes, roomed_turn, roomed_told, roomed_stays, roomed_still, roomed_same, roomed_may, roomed_sessions}
 use Rattle.mp_primary.proofs.primary.Primary.turn_of.Goals as goal
 
 pub leave-requires-clause-session : goal.leave-requires-clause-session
@@ -28,12 +28,13 @@ try_line-requires g c =
     record {
       comes = roomed_comes g.D.Disk c.args.shared.now _ c.args.self.now c.self.view_is c.args.node.now c.args.number own.session own.found c.requires.stands c.make_room.new.self c.make_room.ensures.answers c.make_room.ensures.same c.make_room.ensures.book
           c.in-Statement.line (next_stated own.session c.in-Statement.line (its_task _ c.args.self.now c.self.view_is c.args.number own.session own.found c.index.result.now c.index.ensures c.task.result c.task.ensures (Statement c.in-Statement.line) c.in-Statement.is)) c.in_default.ensures.room own.inside;
+      told = roomed_told g.D.Disk c.args.shared.now _ c.args.self.now c.self.view_is c.args.node.now c.args.number own.session own.found c.requires.stands c.make_room.new.self c.make_room.ensures.answers c.make_room.ensures.same c.make_room.ensures.book c.requires.told;
     }
 
 pub returns-in-Nothing-clause-turn : goal.returns-in-Nothing-clause-turn
 returns-in-Nothing-clause-turn g c =
     let own = c.requires.session in
-    c.nothing_left.ensures c.args.shared.now c.args.node.now c.args.number own.session c.requires.stands own.found (its_task _ c.args.self.now c.self.view_is c.args.number own.session own.found c.index.result.now c.index.ensures c.task.result c.task.ensures Nothing c.in-Nothing.is) own
+    c.nothing_left.ensures c.args.shared.now c.args.node.now c.args.number own.session c.requires.stands c.requires.told own.found (its_task _ c.args.self.now c.self.view_is c.args.number own.session own.found c.index.result.now c.index.ensures c.task.result c.task.ensures Nothing c.in-Nothing.is) own
 
 pub returns-in_default-clause-turn : goal.returns-in_default-clause-turn
 returns-in_default-clause-turn g c =
