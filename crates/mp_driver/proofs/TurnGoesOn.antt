@@ -1,4 +1,4 @@
--- A turn of one primary that stays up: the run goes on, with the answer that the turn gave, if it gave one.
+-- A turn of one primary: the run goes on, with the answer that the turn gave, if it gave one.
 use Rattle.std.proofs.Common.{◌≡◌, ◌≢◌, ℕ, ◌+◌, ◌-◌, ◌<◌, ◌==◌, Bool, true, List, [], ◌∷◌, ◌++◌, map, filter, length, slice_get, slice_set, Option, None, Some, is_some, if◌then◌else◌, refl, sym, ap, subst, ◌∙◌, inl, inr, arith, eq-eqb, ne_eqb, append-nil, length-append}
 use Rattle.std.specs.List.{filter_map, AllByRecursion}
 use Rattle.std.specs.Option.{IfSome}
@@ -48,13 +48,12 @@ use Rattle.mp_driver.proofs.Appended.{total_more, ascend_one, found_one, found_n
 use Rattle.mp_driver.proofs.ShownDraws.{count_of, drawn_as_shown, if_began}
 use Rattle.mp_driver.proofs.GivenEntries.{entry_at, by_here, by_other, entries_one, nodes_one, answers_one, AddsOne, adds_one_or_none}
 
--- The primary at a place took a turn, and is up
+-- The primary at a place took a turn
 pub record TookTurn {D : Type 0} (g : Ghosts D) (place : ℕ) (session : Option ℕ) (old new : Members D) (turn : Turn) : Type 0 where
   pub before : PrimaryView D
   pub after : PrimaryView D
   pub was : slice_get old.primaries.items place ≡ Some before
   pub takes : TakesTurn g old.shared before after old.node new.node session turn
-  pub up : after.down ≡ 0
   pub shared : new.shared ≡ old.shared
   pub primaries : new.primaries.items ≡ slice_set old.primaries.items place after
   pub order : new.order.items ≡ old.order.items ++ number_answering before after
@@ -187,9 +186,9 @@ module _ {D : Type 0} (g : Ghosts D) (work : Work) (given : List NodeEntry) (old
       itself = record {
         number = t.takes.number ∙ member.number;
         work_is = t.takes.work ∙ member.work_is;
-        up = t.up;
         stands = subst (λ (run : Run). StandsWith g run t.after new.node) (sym t.shared) t.takes.stands;
         agrees = subst (λ (l : List Entry). PrimaryAgreesIn g t.after l new.node) (sym here) goes.agrees;
+        told = t.takes.told;
         may_turn = may_turn;
       }
 
@@ -203,10 +202,10 @@ module _ {D : Type 0} (g : Ghosts D) (work : Work) (given : List NodeEntry) (old
           record {
             number = m.number;
             work_is = m.work_is;
-            up = m.up;
             stands = subst (λ (run : Run). StandsWith g run pr new.node) (sym t.shared)
                 (stands_beside g old.shared t.before t.after pr old.node new.node session turn t.takes differs m.stands);
             agrees = λ q has. subst (λ (l : List Entry). PrimaryAgrees g pr l q) (sym (apart (k + 1) no_other)) (m.agrees q (sym (t.takes.went.others pr.number differs) ∙ has));
+            told = λ q has. m.told q (sym (t.takes.went.others pr.number differs) ∙ has);
             may_turn = m.may_turn;
           }
 

@@ -1,25 +1,29 @@
 -- What a turn of one primary leaves of a run, and one turn behind another.
-use Rattle.std.proofs.Common.{◌≡◌, ◌≢◌, ℕ, zero, suc, ◌+◌, ◌<◌, true, List, [], ◌∷◌, ◌++◌, length, slice_get, slice_set, Option, None, Some, Result, Ok, Err, OnOk, refl, sym, ap, subst, ◌∙◌, inl, inr, arith, append_assoc, append-nil}
+use Rattle.std.proofs.Common.{◌≡◌, ◌≢◌, ℕ, zero, suc, ◌+◌, ◌<◌, true, List, [], ◌∷◌, ◌++◌, length, slice_get, slice_set, Option, None, Some, Result, Ok, Err, OnOk, refl, sym, ap, subst, ◌∙◌, inl, inr, ⊎_elim, arith, append_assoc, append-nil}
 use Rattle.std.specs.Option.{IfSome}
-use Rattle.std.specs.Result.{IfOk, IfErr, IsErrAnd}
+use Rattle.std.specs.Result.{IfOk}
 use Rattle.std.proofs.lemmas.Bool.{cases_eq}
 use Rattle.std.proofs.lemmas.List.{length-set}
+use Rattle.mp_model.specs.declared.errors.Memory.{Memory}
 use Rattle.mp_model.specs.declared.waiting.Turn.{Turn}
 use Rattle.mp_model.specs.declared.waiting.Turn.TheVariants as turns
 use Rattle.mp_script.proofs.Options.{some_is, not_some}
 use Rattle.mp_book.specs.Through.{have_no_task}
 use Rattle.mp_book.proofs.Items.{after_set}
 use Rattle.mp_outside.specs.declared.disks.Disk.{Ghosts}
-use Rattle.mp_files.specs.Nine.{At}
+use Rattle.mp_files.specs.Nine.{At, StillDisk}
+use Rattle.mp_files.proofs.Nines.{StillDisk-refl}
+use Rattle.mp_desk.specs.declared.media.Media.{Media}
+use Rattle.mp_shared.specs.Nodes.{Run, NodeView}
 use Rattle.mp_verdict.specs.Orders.{NodeEntry}
 use Rattle.mp_primary.specs.Primaries.{PrimaryView}
 use Rattle.mp_primary.specs.Turns.{MayTakeTurn, TakesTurn, has_nothing_left}
+use Rattle.mp_primary.specs.Answering.{have_no_line}
+use Rattle.mp_primary.proofs.AllAnswered.{no_task_no_line}
 use Rattle.mp_members.specs.declared.members.Members.{Members}
-use Rattle.mp_members.specs.Running.{Runs, IsSameMember, AreSameMembers}
-use Rattle.mp_members.proofs.SameMembers.{IsSameMember-refl, AreSameMembers-refl, AreSameMembers-trans, MemberFailed-later}
-use Rattle.mp_driver.specs.declared.driving.Halt.{Halt}
-use Rattle.mp_driver.specs.declared.driving.Halt.TheVariants as halts
-use Rattle.mp_driver.specs.Driving.{number_answering, IsThroughAt, RunsSomehow, DrivesOn, TurnsAt, IsStopOf, HaltCause}
+use Rattle.mp_members.specs.Running.{IsThrough, Runs, IsSameMember, AreSameMembers}
+use Rattle.mp_members.proofs.SameMembers.{IsSameMember-refl, AreSameMembers-refl, AreSameMembers-trans}
+use Rattle.mp_driver.specs.Driving.{number_answering, IsThroughAt, IsDownAt, RunsSomehow, DrivesOn, TurnsAt}
 use Rattle.mp_driver.proofs.TurnGoesOn.{TookTurn, turn_goes_on}
 
 -- ---- lists
@@ -43,7 +47,7 @@ same_lists [] (y ∷ ys) same = absurd (not_some y (same zero))
 same_lists (x ∷ xs) [] same = absurd (not_some x (sym (same zero)))
 same_lists (x ∷ xs) (y ∷ ys) same = let first = some_is x y (same zero) in let rest = same_lists xs ys (λ place. same (suc place)) in λ i. first i ∷ rest i
 
--- the primaries before a place, and the one there, have nothing left
+-- the primaries before a place, and the one there, are through
 pub through_more : {D : Type 0} (place : ℕ) (old new : Members D) → ((k : ℕ) → k < place → IsThroughAt old k)
     → ((other : ℕ) → other ≢ place → slice_get new.primaries.items other ≡ slice_get old.primaries.items other) → IsThroughAt new place
     → (k : ℕ) → k < place + 1 → IsThroughAt new k
@@ -51,6 +55,15 @@ through_more place old new before others here k low pr is = elim (cases_eq k pla
   | inl same ↦ here pr (ap (slice_get new.primaries.items) (sym same) ∙ is)
   | inr apart ↦ before k (omega (arith, low, apart)) pr (sym (others k apart) ∙ is)
 ]
+
+-- a primary that has nothing left to do is through
+through_up : {D : Type 0} (pr : PrimaryView D) → have_no_task pr.book.sessions.items ≡ true → IsThrough pr
+through_up pr nothing = record { answered = no_task_no_line pr.book.sessions.items nothing; nothing = λ up. nothing }
+
+-- so is one that is down and has answered each statement
+pub through_down : {D : Type 0} (m : Members D) (place : ℕ) (pr : PrimaryView D) → slice_get m.primaries.items place ≡ Some pr → IsDownAt m place → have_no_line pr.book.sessions.items ≡ true → IsThroughAt m place
+through_down m place pr is down answered other at =
+    subst (λ p. IsThrough p) (some_is pr other (sym is ∙ at)) (record { answered = answered; nothing = λ up. absurd (down pr is up) })
 
 module _ {D : Type 0} (g : Ghosts D) where
   -- ---- one behind another
@@ -72,15 +85,6 @@ module _ {D : Type 0} (g : Ghosts D) where
 
   pub runs_still : (old new : Members D) → DrivesOn g old new → RunsSomehow g old → RunsSomehow g new
   runs_still old new drives runs = let on = drives.runs runs.0 runs.1 runs.2 in (runs.0, runs.1 ++ on.0, on.1)
-
-  pub HaltCause-later : (old mid new : Members D) (halt : Halt) → AreSameMembers g old mid → HaltCause g mid new halt → HaltCause g old new halt
-  HaltCause-later old mid new (halts.LogDisk primary) same cause = MemberFailed-later g primary old mid new same cause
-  HaltCause-later old mid new halts.Memory same cause = tt
-
-  -- a halt that is handed on is the same
-  pub halts_on : {T : Type 0} (r : Result T Halt) (halt : Halt) (old new : Members D) → IsErrAnd r (λ other. other ≡ halt) → HaltCause g old new halt → IfErr r (HaltCause g old new)
-  halts_on (Ok x) halt old new is cause = tt
-  halts_on (Err other) halt old new is cause = subst (HaltCause g old new) (sym is) cause
 
   -- ---- a turn at a place
 
@@ -107,36 +111,28 @@ module _ {D : Type 0} (g : Ghosts D) where
           | inr e ↦ subst (λ (p : PrimaryView D). IsSameMember g x p) (some_is x y (sym stood ∙ e.stood)) (IsSameMember-refl g x)
         ]
 
-    pub halt_at : before.number ≡ place + 1 → (halt : Halt) → IsStopOf g before after halt → HaltCause g old new halt
-    halt_at number (halts.LogDisk primary) stop = record {
-      place = place;
-      number_is = stop.0 ∙ number;
-      before = before;
-      after = after;
-      was = was;
-      now = now_there;
-      rose = stop.1;
-    }
-    halt_at number halts.Memory stop = tt
-
   module _ (place : ℕ) (session : Option ℕ) (old new : Members D) (turn : Turn) (t : TookTurn g place session old new turn) where
+    its_after : (pr : PrimaryView D) → slice_get new.primaries.items place ≡ Some pr → t.after ≡ pr
+    its_after pr is = some_is t.after pr (sym (now_there place old new t.before t.after t.was t.primaries) ∙ is)
+
     through : session ≡ None → turn ≡ turns.Done → IsThroughAt new place
     through none done pr is =
-        let after_is : t.after ≡ pr = some_is t.after pr (sym (now_there place old new t.before t.after t.was t.primaries) ∙ is) in
         let nothing : have_no_task t.before.book.sessions.items ≡ true = subst (λ (o : Option ℕ). has_nothing_left t.before o ≡ true) none (t.takes.done.0 done).1 in
         let same : t.after.book.sessions.items ≡ t.before.book.sessions.items =
         same_lists t.after.book.sessions.items t.before.book.sessions.items (λ k. t.takes.others k (λ named. not_some k (sym none ∙ named))) in
-        subst (λ (p : PrimaryView D). have_no_task p.book.sessions.items ≡ true) after_is (ap have_no_task same ∙ nothing)
+        subst (λ (p : PrimaryView D). IsThrough p) (its_after pr is) (through_up t.after (ap have_no_task same ∙ nothing))
 
-    still_up : (by : ℕ) → turn ≢ turns.Stopped by
-    still_up by is = let down = t.takes.stopped.0 by is in down.1 (sym down.0 ∙ t.up)
+    down : (by : ℕ) → turn ≡ turns.Stopped by → IsDownAt new place
+    down by stopped pr is =
+        let its = t.takes.stopped.0 by stopped in
+        subst (λ (p : PrimaryView D). p.down ≢ 0) (its_after pr is) (λ up. its.1 (sym its.0 ∙ up))
 
     pub turns_at : AreSameMembers g old new → TurnsAt g place session old new turn
     turns_at same = record {
       drives = record { runs = λ work given r. turn_goes_on g work given old r place session turn new t; same = same };
       others = others_stay place old new t.before t.after t.was t.primaries;
       through = through;
-      up = still_up;
+      down = down;
     }
 
   -- ---- what the call for it answers
@@ -146,13 +142,31 @@ module _ {D : Type 0} (g : Ghosts D) where
   may_named pr (Some number) may low = may number low
 
   module _ (place : ℕ) (session : Option ℕ) (old new : Members D) (before after : PrimaryView D) (was : slice_get old.primaries.items place ≡ Some before) (primaries : new.primaries.items ≡ slice_set old.primaries.items place after) (shared : new.shared ≡ old.shared) (same : AreSameMembers g old new) where
-    pub turn_so : (r : Result Turn Halt) → IfOk r (TakesTurn g old.shared before after old.node new.node session) → OnOk r (after.down ≡ 0)
+    pub turn_so : (r : Result Turn Memory) → IfOk r (TakesTurn g old.shared before after old.node new.node session)
         → OnOk r (new.order.items ≡ old.order.items ++ number_answering before after) → IfOk r (TurnsAt g place session old new)
-    turn_so (Ok turn) takes up order = turns_at place session old new turn
-        (record { before = before; after = after; was = was; takes = takes; up = up; shared = shared; primaries = primaries; order = order }) same
-    turn_so (Err halt) takes up order = tt
+    turn_so (Ok turn) takes order = turns_at place session old new turn
+        (record { before = before; after = after; was = was; takes = takes; shared = shared; primaries = primaries; order = order }) same
+    turn_so (Err memory) takes order = tt
 
-  pub halt_so : (place : ℕ) (old new : Members D) (before after : PrimaryView D) → slice_get old.primaries.items place ≡ Some before → new.primaries.items ≡ slice_set old.primaries.items place after
-      → before.number ≡ place + 1 → (r : Result Turn Halt) → IfErr r (IsStopOf g before after) → IfErr r (HaltCause g old new)
-  halt_so place old new before after was primaries number (Ok turn) stop = tt
-  halt_so place old new before after was primaries number (Err halt) stop = halt_at place old new before after was primaries number halt stop
+  -- the same member behind a turn, and where there was no memory for it
+  module _ (old new : PrimaryView D) where
+    pub same_behind : (run : Run) (before after : NodeView) (session : Option ℕ) (turn : Turn) → TakesTurn g run old new before after session turn → IsSameMember g old new
+    same_behind run before after session turn takes = record {
+      number = takes.number;
+      work_is = takes.work;
+      disk = record { tells = takes.tells; count = takes.faults };
+      fell = λ own. ⊎_elim
+          (λ (same : new.down ≡ old.down). inl (sym same ∙ own))
+          (λ gone. ⊎_elim (λ here. inr here.1) (λ with_another. absurd (with_another.2.found.apart (own ∙ takes.number))) gone.1)
+          takes.down;
+      stays = λ was. ⊎_elim (λ same. same) (λ gone. absurd (was gone.0)) takes.down;
+    }
+
+    pub same_without : new.media ≡ old.media → new.down ≡ old.down → new.number ≡ old.number → new.work ≡ old.work → IsSameMember g old new
+    same_without media down number work = record {
+      number = number;
+      work_is = work;
+      disk = subst (λ (x : Media D). StillDisk g old.media.log.disk x.log.disk) (sym media) (StillDisk-refl g old.media.log.disk);
+      fell = λ own. inl (sym down ∙ own);
+      stays = λ was. down;
+    }

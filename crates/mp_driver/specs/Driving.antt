@@ -8,17 +8,13 @@ use Rattle.mp_model.specs.declared.waiting.Turn.TheVariants as turns
 use Rattle.mp_model.specs.declared.waiting.WordKind.{WordKind}
 use Rattle.mp_model.specs.declared.waiting.WordKind.TheVariants.{Lock, Frame, Least}
 use Rattle.mp_script.specs.declared.statements.SessionOn.{SessionOn}
-use Rattle.mp_book.specs.Through.{have_no_task}
 use Rattle.mp_outside.specs.declared.disks.Disk.{Ghosts}
-use Rattle.mp_files.specs.Nine.{DiskRose}
 use Rattle.mp_schedule.specs.declared.schedule.Try.{Try}
 use Rattle.mp_supports.specs.Work.{Work}
 use Rattle.mp_verdict.specs.Orders.{NodeEntry}
 use Rattle.mp_primary.specs.Primaries.{PrimaryView}
 use Rattle.mp_members.specs.declared.members.Members.{Members}
-use Rattle.mp_members.specs.Running.{Runs, AreSameMembers, AreThrough, MemberFailed}
-use Rattle.mp_driver.specs.declared.driving.Halt.{Halt}
-use Rattle.mp_driver.specs.declared.driving.Halt.TheVariants as halts
+use Rattle.mp_members.specs.Running.{Runs, AreSameMembers, IsThrough, AreThrough}
 
 -- the session is declared on one of so many primaries
 abbrev pub IsOnMember : List SessionOn → ℕ → ℕ → Type 0
@@ -49,9 +45,13 @@ module _ {D : Type 0} where
   abbrev pub number_answering : PrimaryView D → PrimaryView D → List ℕ
   number_answering old new = if length new.book.answers.items == length old.book.answers.items then [] else new.number ∷ []
 
-  -- the primary at a place has nothing left to do
+  -- the primary at a place is through
   abbrev pub IsThroughAt : Members D → ℕ → Type 0
-  IsThroughAt m place = (pr : PrimaryView D) → slice_get m.primaries.items place ≡ Some pr → have_no_task pr.book.sessions.items ≡ true
+  IsThroughAt m place = (pr : PrimaryView D) → slice_get m.primaries.items place ≡ Some pr → IsThrough pr
+
+  -- the primary at a place is down
+  abbrev pub IsDownAt : Members D → ℕ → Type 0
+  IsDownAt m place = (pr : PrimaryView D) → slice_get m.primaries.items place ≡ Some pr → pr.down ≢ 0
 
 module _ {D : Type 0} (g : Ghosts D) where
   -- a run can go on from these members
@@ -67,25 +67,15 @@ module _ {D : Type 0} (g : Ghosts D) where
     pub runs : RunsOn old new
     pub same : AreSameMembers g old new
 
-  -- A turn of the primary at a place: the run went on, and the other primaries are as they were. The primary isn't down, and
-  -- where the turn named no session and was done, it has nothing left
+  -- A turn of the primary at a place: the run went on, and the other primaries are as they were. Where the turn named no session,
+  -- the primary is through behind a turn that was done; one whose turn was stopped is down
   pub record TurnsAt (place : ℕ) (session : Option ℕ) (old new : Members D) (turn : Turn) : Type 0 where
     pub drives : DrivesOn old new
     pub others : (other : ℕ) → other ≢ place → slice_get new.primaries.items other ≡ slice_get old.primaries.items other
     pub through : session ≡ None → turn ≡ turns.Done → IsThroughAt new place
-    pub up : (by : ℕ) → turn ≢ turns.Stopped by
+    pub down : (by : ℕ) → turn ≡ turns.Stopped by → IsDownAt new place
 
-  -- a run went on to its end: more answers were given, and nothing is left to do
+  -- a run went on to its end: more answers were given, each statement is answered, and no primary that is up has anything left
   abbrev pub RunsToItsEnd : Members D → Members D → Type 0
   RunsToItsEnd old new = (work : Work) (given : List NodeEntry) → Runs g work old given
       → (more : List NodeEntry) × Runs g work new (given ++ more) × AreThrough new
-
-  -- why a turn of a primary stops a run: its own log's count of faults rose, or there was no memory
-  abbrev pub IsStopOf : PrimaryView D → PrimaryView D → Halt → Type 0
-  IsStopOf old new (halts.LogDisk primary) = (primary ≡ old.number) × DiskRose g old.media.log.disk new.media.log.disk
-  IsStopOf old new halts.Memory = Unit {0}
-
-  -- a log's disk stops a run only where its count of faults rose
-  abbrev pub HaltCause : Members D → Members D → Halt → Type 0
-  HaltCause old new (halts.LogDisk primary) = MemberFailed g primary old new
-  HaltCause old new halts.Memory = Unit {0}

@@ -1,5 +1,5 @@
 //! What the words of driving say in small cases, as the contracts of functions that do nothing.
-ghost use Rattle.std.specs.Prelude.{◌≡◌, ℕ, ◌<◌, true, false, List, [], ◌∷◌, None, Some, Option};
+ghost use Rattle.std.specs.Prelude.{◌≡◌, ◌≢◌, ℕ, ◌<◌, true, false, List, [], ◌∷◌, slice_get, None, Some, Option};
 ghost use Rattle.mp_model.specs.declared.ids.TrxName.{TrxName};
 ghost use Rattle.mp_model.specs.declared.replies.Answer.{Answer};
 ghost use Rattle.mp_model.specs.declared.waiting.Cause.TheVariants as causes;
@@ -11,8 +11,7 @@ ghost use Rattle.mp_verdict.specs.Orders.{NodeEntry};
 ghost use Rattle.mp_primary.specs.Primaries.{PrimaryView};
 ghost use Rattle.mp_members.specs.declared.members.Members.{Members};
 ghost use Rattle.mp_members.specs.Running.{Runs, AreSameMembers, AreThrough};
-ghost use Rattle.mp_driver.specs.declared.driving.Halt.TheVariants as halts;
-ghost use Rattle.mp_driver.specs.Driving.{IsOnMember, is_on_member, AreOnMembers, is_word_of_page, is_page_wait, number_answering, IsThroughAt, RunsSomehow, RunsOn, DrivesOn, TurnsAt, RunsToItsEnd, IsStopOf, HaltCause};
+ghost use Rattle.mp_driver.specs.Driving.{IsOnMember, is_on_member, AreOnMembers, is_word_of_page, is_page_wait, number_answering, IsThroughAt, IsDownAt, RunsSomehow, RunsOn, DrivesOn, TurnsAt, RunsToItsEnd};
 
 use mp_outside::Disk;
 
@@ -32,15 +31,17 @@ pub fn law_trying_examples()
     ensures waits_for_writer { (name : TrxName) → is_page_wait (causes.Writer name) ≡ false }
 {}
 
-/// A primary whose count of answers grew gave one, and one that is as it was didn't. A place where no primary is has nothing
-/// left, and one whose primary has a task left does. Members that carry a page's frame run from nothing. A run goes on to
-/// where it is, and not to where it can't go on from. A turn never leaves its primary stopped. A run that is through is at
-/// its end, and one that isn't is not. Another primary's log stops no turn, and none that isn't there stops a run.
+/// A primary whose count of answers grew gave one, and one that is as it was didn't. A place where no primary is is through,
+/// and not each is where members aren't. A place is down whose primary is, and not one whose primary is up. Members that carry
+/// a page's frame run from nothing. A run goes on to where it is, and not to where it can't go on from. A turn that was stopped
+/// doesn't leave its primary up. A run that is through is at its end, and one that isn't is not.
 pub fn law_driving_examples<D: Disk>()
     ensures answers { (old new : PrimaryView D) (a : Answer) → old.book.answers.items ≡ [] → new.book.answers.items ≡ a ∷ [] → number_answering old new ≡ new.number ∷ [] }
     ensures answers_nothing { (pr : PrimaryView D) → number_answering pr pr ≡ [] }
     ensures through_there { (m : Members D) → m.primaries.items ≡ [] → IsThroughAt m 0 }
     ensures not_through_there { (m : Members D) → ¬ AreThrough m → ¬ ((place : ℕ) → IsThroughAt m place) }
+    ensures down_there { (m : Members D) (pr : PrimaryView D) → m.primaries.items ≡ pr ∷ [] → pr.down ≢ 0 → IsDownAt m 0 }
+    ensures not_down_there { (m : Members D) (pr : PrimaryView D) → slice_get m.primaries.items 0 ≡ Some pr → pr.down ≡ 0 → ¬ IsDownAt m 0 }
     ensures somehow { (work : Work) (m : Members D) (given : List NodeEntry) → Runs D.Disk work m given → RunsSomehow D.Disk m }
     ensures with_a_frame { (m : Members D) → m.node.frames ≡ 5 ∷ [] → ¬ RunsSomehow D.Disk m }
     ensures on_here { (m : Members D) → RunsOn D.Disk m m }
@@ -48,11 +49,8 @@ pub fn law_driving_examples<D: Disk>()
     ensures drives { (m : Members D) → DrivesOn D.Disk m m }
     ensures drives_others { (old new : Members D) → ¬ AreSameMembers D.Disk old new → ¬ DrivesOn D.Disk old new }
     ensures turn { (m : Members D) (place session : ℕ) → TurnsAt D.Disk place (Some session) m m turns.Answered }
-    ensures stopped { (old new : Members D) (place by : ℕ) (session : Option ℕ) → ¬ TurnsAt D.Disk place session old new (turns.Stopped by) }
+    ensures stopped { (old new : Members D) (place by : ℕ) (session : Option ℕ) (pr : PrimaryView D) → slice_get new.primaries.items place ≡ Some pr
+        → pr.down ≡ 0 → ¬ TurnsAt D.Disk place session old new (turns.Stopped by) }
     ensures ended { (m : Members D) → AreThrough m → RunsToItsEnd D.Disk m m }
     ensures not_ended { (work : Work) (m : Members D) → Runs D.Disk work m [] → ¬ AreThrough m → ¬ RunsToItsEnd D.Disk m m }
-    ensures stop { (old new : PrimaryView D) → IsStopOf D.Disk old new halts.Memory }
-    ensures stop_of_another { (old new : PrimaryView D) → old.number ≡ 1 → ¬ IsStopOf D.Disk old new (halts.LogDisk 2) }
-    ensures cause { (old new : Members D) → HaltCause D.Disk old new halts.Memory }
-    ensures not_there { (old new : Members D) → old.primaries.items ≡ [] → ¬ HaltCause D.Disk old new (halts.LogDisk 1) }
 {}

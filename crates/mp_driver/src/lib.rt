@@ -1,4 +1,4 @@
-//! Drives the members of a run through a script, on one thread: it takes turns by the schedule until nothing is left to do.
+//! Drives the members of a run through a script, on one thread: it takes turns by the schedule until each statement is answered.
 #![tactic(auto)]
 
 mod causes;
@@ -7,5 +7,5 @@ mod examples;
 mod places;
 mod turning;
 
-pub use driving::{Halt, drive};
+pub use driving::drive;
 pub use examples::{law_driving_examples, law_trying_examples};

@@ -1,14 +1,13 @@
 //! Turns of members.
-ghost use Rattle.std.specs.Prelude.{◌≡◌, ◌<◌, ◌++◌, true, length, IfSome, IfOk, IfErr, OnOk};
-ghost use Rattle.mp_files.specs.Nine.{StillDisk};
+ghost use Rattle.std.specs.Prelude.{◌≡◌, ◌<◌, ◌++◌, true, length, IfSome, IfOk, OnOk};
 ghost use Rattle.mp_primary.specs.Primaries.{StandsWith};
+ghost use Rattle.mp_primary.specs.Downs.{IsDownAsTold};
 ghost use Rattle.mp_primary.specs.Turns.{MayTakeTurn, TakesTurn};
 ghost use Rattle.mp_members.specs.Running.{IsSameMember, AreSameMembers, AreThrough};
-ghost use Rattle.mp_driver.specs.Driving.{number_answering, IsStopOf, HaltCause, RunsSomehow, DrivesOn, TurnsAt};
+ghost use Rattle.mp_driver.specs.Driving.{number_answering, RunsSomehow, DrivesOn, TurnsAt};
 
-use crate::driving::Halt;
 use mp_members::Members;
-use mp_model::Turn;
+use mp_model::{Memory, Turn};
 use mp_outside::Disk;
 use mp_primary::Primary;
 use mp_shared::{Node, Shared};
@@ -20,13 +19,12 @@ pub(crate) fn turn_at<D: Disk, L: Ledger>(
     place: usize,
     session: Option<u8>,
     steps: &mut Steps<L>,
-) -> Result<Turn, Halt>
+) -> Result<Turn, Memory>
     requires runs { RunsSomehow D.Disk members.old }
     requires place { place < length members.old.primaries.items }
     requires session { IfSome session (λ number. number < 65) }
     ensures turn { IfOk result (TurnsAt D.Disk place session members.old members.new) }
     ensures same { AreSameMembers D.Disk members.old members.new }
-    ensures cause { IfErr result (HaltCause D.Disk members.old members.new) }
 {
     take_turn(
         &mut members.primaries[place],
@@ -38,7 +36,7 @@ pub(crate) fn turn_at<D: Disk, L: Ledger>(
     )
 }
 
-// A turn of a primary that is up. Room for its number is taken before it, so that nothing is lost for want of memory.
+// A turn of a primary. Room for its number is taken before it, so that nothing is lost for want of memory.
 fn take_turn<D: Disk, L: Ledger>(
     primary: &mut Primary<D>,
     shared: &Shared,
@@ -46,28 +44,23 @@ fn take_turn<D: Disk, L: Ledger>(
     order: &mut Vec<u8>,
     session: Option<u8>,
     steps: &mut Steps<L>,
-) -> Result<Turn, Halt>
+) -> Result<Turn, Memory>
     requires stands { StandsWith D.Disk shared.now primary.old node.old }
+    requires told { IsDownAsTold primary.old node.old }
     requires session { IfSome session (MayTakeTurn primary.old) }
-    requires up { primary.old.down ≡ 0 }
     ensures turn { IfOk result (TakesTurn D.Disk shared.now primary.old primary.new node.old node.new session) }
-    ensures still_up { OnOk result (primary.new.down ≡ 0) }
     ensures order { OnOk result (order.new.items ≡ order.old.items ++ number_answering primary.old primary.new) }
     ensures same { IsSameMember D.Disk primary.old primary.new }
-    ensures cause { IfErr result (IsStopOf D.Disk primary.old primary.new) }
 {
     if order.reserve(1).is_err() {
-        return Err(Halt::Memory);
+        return Err(Memory);
     }
     let answered = primary.answered();
     let turn = match primary.turn(shared, node, session, steps) {
         Ok(turn) => turn,
-        Err(_) => return Err(Halt::Memory),
+        Err(Memory) => return Err(Memory),
     };
     let number = primary.number();
-    if primary.down() != 0 {
-        return Err(Halt::LogDisk { primary: number });
-    }
     if primary.answered() != answered {
         order.push_reserved(number);
     }
@@ -78,11 +71,10 @@ fn take_turn<D: Disk, L: Ledger>(
 pub(crate) fn serve<D: Disk, L: Ledger>(
     members: &mut Members<D>,
     steps: &mut Steps<L>,
-) -> Result<(), Halt>
+) -> Result<(), Memory>
     requires runs { RunsSomehow D.Disk members.old }
     ensures drives { OnOk result (DrivesOn D.Disk members.old members.new) }
     ensures same { AreSameMembers D.Disk members.old members.new }
-    ensures cause { IfErr result (HaltCause D.Disk members.old members.new) }
 {
     for place in 0..members.primaries.len() {
         let _turn = turn_at(members, place, None, steps)?;
@@ -90,20 +82,25 @@ pub(crate) fn serve<D: Disk, L: Ledger>(
     Ok(())
 }
 
-/// Serving turns, until one isn't done: whether all primaries have nothing left to do.
+/// Serving turns, until a primary has something left: whether each statement is answered, and no primary that is up has
+/// anything left to do.
 pub(crate) fn settle<D: Disk, L: Ledger>(
     members: &mut Members<D>,
     steps: &mut Steps<L>,
-) -> Result<bool, Halt>
+) -> Result<bool, Memory>
     requires runs { RunsSomehow D.Disk members.old }
     ensures drives { OnOk result (DrivesOn D.Disk members.old members.new) }
     ensures through { IfOk result (λ settled. settled ≡ true → AreThrough members.new) }
     ensures same { AreSameMembers D.Disk members.old members.new }
-    ensures cause { IfErr result (HaltCause D.Disk members.old members.new) }
 {
     for place in 0..members.primaries.len() {
         match turn_at(members, place, None, steps)? {
             Turn::Done => (),
+            Turn::Stopped(_) => {
+                if !members.primaries[place].is_answered() {
+                    return Ok(false);
+                }
+            }
             _ => return Ok(false),
         }
     }

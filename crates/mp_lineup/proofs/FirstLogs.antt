@@ -1,5 +1,5 @@
 -- A log as it is opened for a run is one that a primary may begin with; and what a primary asks of a script holds of each that is spelled.
-use Rattle.std.proofs.Common.{◌≡◌, ℕ, ◌+◌, ◌≤◌, nat_lt, false, List, [], ◌∷◌, ◌++◌, length, filter, refl, subst, arith}
+use Rattle.std.proofs.Common.{◌≡◌, ℕ, ◌+◌, ◌≤◌, nat_lt, false, List, [], ◌∷◌, ◌++◌, length, filter, refl, ap, subst, arith}
 use Rattle.std.specs.List.{AllByRecursion}
 use Rattle.std.proofs.lemmas.Bool.Decides.{nat_tests}
 use Rattle.std.proofs.lemmas.List.{length-append}
@@ -25,7 +25,7 @@ none_above base (mtr ∷ mtrs) low =
 
 pub first_log : {D : Type 0} (g : Ghosts D) (work : Work) (p : ℕ) (log : LogView D) → IsLogFrom g work.base.llsn p log → IsFirstLog g work p log
 first_log g work p log h = record {
-  takes = record { live = h.live; node = h.node; last = h.last };
+  takes = record { live = h.live; node = h.node; last = h.last; fits = let none = ap (λ (l : List ℕ). length l) h.nothing in omega (arith, none) };
   nothing = h.nothing;
   stands = λ tells. let s = h.stands tells in (s.0, s.1, none_above work.base.llsn (mtrs_of s.0) s.2);
 }

@@ -22,8 +22,9 @@ use Rattle.mp_buffer_fusion.proofs.Visiting.{one_part}
 use Rattle.mp_supports.specs.Work.{Work}
 use Rattle.mp_desk.specs.Desks.{DeskAgrees, IsAtDesk}
 use Rattle.mp_primary.specs.Primaries.{PrimaryView, PrimaryAgrees, PrimaryAgreesIn, StandsWith}
+use Rattle.mp_primary.specs.Downs.{IsDownAsTold}
 use Rattle.mp_members.specs.declared.members.Members.{Members}
-use Rattle.mp_members.specs.Running.{IsMember, Runs}
+use Rattle.mp_members.specs.Running.{down_in, downs_of, IsMember, Runs}
 use Rattle.mp_lineup.specs.NewMembers.{IsNewMember, AreNewMembers}
 
 total_none : (f : ℕ → ℕ) (count : ℕ) → ((n : ℕ) → n < count → f n ≡ 0) → total f count ≡ 0
@@ -40,6 +41,15 @@ module _ (run : Run) where
 
   pub first_clock : tso_of (first_node run) ≡ run.opening.trx.base.ts
   first_clock = let none = total_none (λ n. drawn_by (trx_in (part_in (first_node run).parts n))) (run.opening.trx.primaries + 1) drawn_none in omega (arith, none)
+
+-- new primaries are all up
+pub all_up : {D : Type 0} (g : Ghosts D) (work : Work) (primaries : List (PrimaryView D)) → AreNewMembers g work primaries → (n : ℕ) → downs_of primaries n ≡ 0
+all_up g work primaries new zero = refl
+all_up {D} g work primaries new (suc place) = is_up (slice_get primaries place) refl
+  where
+    is_up : (o : Option (PrimaryView D)) → slice_get primaries place ≡ o → down_in (slice_get primaries place) ≡ 0
+    is_up None is = ap (λ (o : Option (PrimaryView D)). down_in o) is
+    is_up (Some pr) is = ap (λ (o : Option (PrimaryView D)). down_in o) is ∙ (new place pr is).up
 
 module _ {D : Type 0} (g : Ghosts D) (run : Run) (reached : Reached (first_node run)) (work : Work) (p : ℕ) (pr : PrimaryView D) (new : IsNewMember g work p pr)
     (node : IsNode run.opening.trx p) (base : run.opening.trx.base ≡ work.base) (begins : run.opening.trx.begins ≡ length (begin_names work.lines)) where
@@ -100,9 +110,9 @@ module _ {D : Type 0} (g : Ghosts D) (work : Work) (m : Members D) (node : m.nod
       record {
         number = its.number;
         work_is = its.work_is;
-        up = its.up;
         stands = subst (StandsWith g m.shared pr) (sym node) (stands_first g m.shared at_first_node work (place + 1) pr its is_node base begins);
         agrees = subst (PrimaryAgreesIn g pr []) (sym node) (agrees_first g m.shared at_first_node work (place + 1) pr its is_node base begins);
+        told = subst (IsDownAsTold pr) (sym node) (its.told m.shared is_node);
         may_turn = its.may_turn;
       }
 

@@ -3,3 +3,4 @@ pub mod FirstRuns
 pub mod FirstLogs
 pub mod LogsAndIdle
 pub mod MoreMembers
+pub mod ListedDowns

@@ -2,6 +2,7 @@
 #![tactic(auto)]
 
 mod begins;
+mod downs;
 mod examples;
 mod lining_up;
 mod making;
@@ -10,6 +11,7 @@ mod putting_back;
 mod stopping;
 
 pub use begins::count_begins;
+pub use downs::list_downs;
 pub use examples::{law_lining_up_examples, law_listed_examples, law_small_run_examples};
 pub use lining_up::line_up;
 pub use merging::merge;

@@ -1,10 +1,10 @@
 //! How a run begins.
-ghost use Rattle.std.specs.Prelude.{◌≡◌, ◌≤◌, [], length, map, vec_capacity, IfOk, OnErr};
+ghost use Rattle.std.specs.Prelude.{◌≡◌, ℕ, ◌≤◌, [], length, map, vec_capacity, IfOk, OnErr};
 ghost use Rattle.mp_core.specs.Invariant.{NumbersFit};
 ghost use Rattle.mp_script.specs.BeginNames.{begin_names};
 ghost use Rattle.mp_script.specs.Spelling.{IsSpelled};
 ghost use Rattle.mp_shared.specs.Nodes.{Reached, opening_of, first_node};
-ghost use Rattle.mp_members.specs.Running.{Runs, logs_of};
+ghost use Rattle.mp_members.specs.Running.{Runs, logs_of, downs_in};
 ghost use Rattle.mp_lineup.specs.LiningUp.{MayLineUp, work_over};
 
 use crate::begins::count_begins;
@@ -21,9 +21,9 @@ use mp_shared::{Node, Shared};
 use std::alloc::Global;
 
 /// Lines up the members of a run of a script over nine disks that were opened for it: a table over the pages, the node with
-/// the parts of all primaries, and a primary for each number that the script has, over its log. Nothing is answered. The
-/// logs of other numbers are idle. `Memory` only for want of memory: the disks of all logs are put back into their list, in
-/// their order, which is empty and has room for them.
+/// the parts of all primaries, and a primary for each number that the script has, over its log. Nothing is answered, and all
+/// primaries are up. The logs of other numbers are idle. `Memory` only for want of memory: the disks of all logs are put back
+/// into their list, in their order, which is empty and has room for them.
 pub fn line_up<D: Disk + Drop>(
     alloc: Global,
     script: &Script,
@@ -37,6 +37,7 @@ pub fn line_up<D: Disk + Drop>(
     ensures runs { IfOk result (λ m. Runs D.Disk (work_over script.now opened.base) m []) }
     ensures opening { IfOk result (λ m. m.shared.opening ≡ opening_of opened.base script.now.primaries (length (begin_names script.now.lines.items)) opened.pages.items) }
     ensures logs { IfOk result (λ m. logs_of m ≡ opened.logs.items) }
+    ensures up { IfOk result (λ m. (n : ℕ) → downs_in m n ≡ 0) }
     ensures untouched { IfOk result (λ m. disks.new ≡ disks.old) }
     ensures put_back { OnErr result (disks.new.items ≡ map (λ log. log.disk) opened.logs.items) }
 {

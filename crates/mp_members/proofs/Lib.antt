@@ -1,1 +1,3 @@
 pub mod SameMembers
+pub mod DownAt
+pub mod DownMembers

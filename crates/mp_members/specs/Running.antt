@@ -1,5 +1,5 @@
 -- A run of several primaries between two turns.
-use Rattle.std.specs.Prelude.{◌≡◌, ℕ, ◌+◌, ◌<◌, true, List, [], ◌++◌, length, map, slice_get, Some, is_some}
+use Rattle.std.specs.Prelude.{◌≡◌, ◌≢◌, ◌⊎◌, ℕ, zero, suc, ◌+◌, ◌<◌, true, List, [], ◌++◌, length, map, slice_get, Option, None, Some, is_some}
 use Rattle.std.specs.List.{filter_map, AllByRecursion}
 use Rattle.mp_model.specs.Folded.{AscendsFrom}
 use Rattle.mp_model.specs.declared.transcripts.Mode.TheVariants.{Step}
@@ -17,6 +17,8 @@ use Rattle.mp_supports.specs.Work.{Work}
 use Rattle.mp_supports.specs.Kept.{answers_in}
 use Rattle.mp_verdict.specs.Orders.{NodeEntry, entries_given, given_by}
 use Rattle.mp_primary.specs.Primaries.{PrimaryView, PrimaryAgreesIn, StandsWith}
+use Rattle.mp_primary.specs.Downs.{IsDownAsTold}
+use Rattle.mp_primary.specs.Answering.{have_no_line}
 use Rattle.mp_primary.specs.Turns.{MayTakeTurn}
 use Rattle.mp_members.specs.declared.members.Members.{Members}
 
@@ -25,19 +27,39 @@ module _ {D : Type 0} where
   abbrev pub logs_of : Members D → List (LogView D)
   logs_of m = map (λ pr. pr.media.log) m.primaries.items ++ m.idle.items
 
-  -- no primary has anything left to do
+  -- with which number a primary that may be there is down, or 0
+  abbrev pub down_in : Option (PrimaryView D) → ℕ
+  down_in None = 0
+  down_in (Some pr) = pr.down
+
+  -- with which number primary n is down, of primaries of whom n stands at place n - 1: 0 where it is up, or isn't there
+  abbrev pub downs_of : List (PrimaryView D) → ℕ → ℕ
+  downs_of primaries zero = 0
+  downs_of primaries (suc place) = down_in (slice_get primaries place)
+
+  -- the same of members
+  abbrev pub downs_in : Members D → ℕ → ℕ
+  downs_in m n = downs_of m.primaries.items n
+
+  -- A primary has answered each statement; and where it is up, it has nothing left to do at all. Of one that is down
+  -- transactions may stay open
+  pub record IsThrough (pr : PrimaryView D) : Type 0 where
+    pub answered : have_no_line pr.book.sessions.items ≡ true
+    pub nothing : pr.down ≡ 0 → have_no_task pr.book.sessions.items ≡ true
+
+  -- all primaries are through
   abbrev pub AreThrough : Members D → Type 0
-  AreThrough m = (place : ℕ) (pr : PrimaryView D) → slice_get m.primaries.items place ≡ Some pr → have_no_task pr.book.sessions.items ≡ true
+  AreThrough m = (place : ℕ) (pr : PrimaryView D) → slice_get m.primaries.items place ≡ Some pr → IsThrough pr
 
 module _ {D : Type 0} (g : Ghosts D) where
-  -- A member: a primary of this number that is up, stands with the node, and agrees with its part by the answers that it gave;
-  -- any of its sessions may take a turn
+  -- A member: a primary of this number that stands with the node, agrees with its part by the answers that it gave, and is
+  -- down with the number that its part tells, or up; any of its sessions may take a turn
   pub record IsMember (work : Work) (m : Members D) (given : List NodeEntry) (n : ℕ) (pr : PrimaryView D) : Type 0 where
     pub number : pr.number ≡ n
     pub work_is : pr.work ≡ work
-    pub up : pr.down ≡ 0
     pub stands : StandsWith g m.shared pr m.node
     pub agrees : PrimaryAgreesIn g pr (given_by n given) m.node
+    pub told : IsDownAsTold pr m.node
     pub may_turn : (session : ℕ) → session < 65 → MayTakeTurn pr session
 
   -- A RUN BETWEEN TWO TURNS: the node has the parts of all primaries of a world that can be reached, each primary is a member,
@@ -60,11 +82,14 @@ module _ {D : Type 0} (g : Ghosts D) where
     pub clock : tso_of m.node ≡ work.base.ts + length (numbers (answers_in (entries_given given)))
     pub greatest : greatest_cts work.base.ts (numbers (answers_in (entries_given given))) ≡ tso_of m.node
 
-  -- the same primary, over the same disk: it tells as before, and its count of faults didn't fall
+  -- The same primary, over the same disk: it tells as before, and its count of faults didn't fall. Where the primary is down
+  -- with its own number, it was so, or the count rose; one that was down is so with the same number
   pub record IsSameMember (old new : PrimaryView D) : Type 0 where
     pub number : new.number ≡ old.number
     pub work_is : new.work ≡ old.work
     pub disk : StillDisk g old.media.log.disk new.media.log.disk
+    pub fell : new.down ≡ new.number → (old.down ≡ new.number) ⊎ DiskRose g old.media.log.disk new.media.log.disk
+    pub stays : old.down ≢ 0 → new.down ≡ old.down
 
   -- the same members, of the same table
   pub record AreSameMembers (old new : Members D) : Type 0 where

@@ -2,7 +2,9 @@
 #![tactic(auto)]
 
 mod examples;
+mod laws;
 mod members;
 
-pub use examples::{law_member_examples, law_running_examples};
+pub use examples::{law_down_examples, law_member_examples, law_running_examples};
+pub use laws::law_downs;
 pub use members::Members;

@@ -5,7 +5,7 @@ use Rattle.mp_schedule.specs.Schedules.{free_try}
 use Rattle.mp_schedule.specs.declared.schedule.TryState.TheVariants.{Waiting, Over}
 use Rattle.mp_members.proofs.SameMembers.{AreSameMembers-trans}
 use Rattle.mp_driver.proofs.Tried.{on_there, on_set, on_forgotten}
-use Rattle.mp_driver.proofs.Turned.{DrivesOn-trans, HaltCause-later, halts_on}
+use Rattle.mp_driver.proofs.Turned.{DrivesOn-trans}
 use Rattle.mp_driver.proofs.driving.attempt.Goals as goal
 
 pub place_of-member-requires : goal.place_of-member-requires
@@ -33,11 +33,6 @@ finish-requires-in-Done g c = slice_get_within c.args.schedule.now.tries.items c
 pub returns-in_err-serve-in-Waiting-clause-same : goal.returns-in_err-serve-in-Waiting-clause-same
 returns-in_err-serve-in-Waiting-clause-same g c =
     AreSameMembers-trans g.D.Disk c.args.members.now c.turn_at.new.members c.serve.new.members c.turn_at.ensures.same c.serve.ensures.same
-
-pub returns-in_err-serve-in-Waiting-clause-cause : goal.returns-in_err-serve-in-Waiting-clause-cause
-returns-in_err-serve-in-Waiting-clause-cause g c =
-    halts_on g.D.Disk c.from_residual-in_err-serve-in-Waiting.result c.in_err-serve-in-Waiting.field-0.0 c.args.members.now c.serve.new.members c.from_residual-in_err-serve-in-Waiting.ensures.1
-    (HaltCause-later g.D.Disk c.args.members.now c.turn_at.new.members c.serve.new.members c.in_err-serve-in-Waiting.field-0.0 c.turn_at.ensures.same c.in_err-serve-in-Waiting.ensures.cause)
 
 pub returns-in-Answered-clause-on : goal.returns-in-Answered-clause-on
 returns-in-Answered-clause-on g c t there =

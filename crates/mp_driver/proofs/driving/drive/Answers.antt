@@ -2,7 +2,7 @@
 use Rattle.std.proofs.Common.{length, sym}
 use Rattle.mp_members.proofs.SameMembers.{AreSameMembers-trans}
 use Rattle.mp_driver.proofs.Tried.{on_forgotten, on_as_many}
-use Rattle.mp_driver.proofs.Turned.{DrivesOn-trans, runs_still, HaltCause-later, halts_on}
+use Rattle.mp_driver.proofs.Turned.{DrivesOn-trans, runs_still}
 use Rattle.mp_driver.proofs.driving.drive.Goals as goal
 
 pub attempt-requires-clause-runs : goal.attempt-requires-clause-runs
@@ -24,11 +24,6 @@ pub returns-in_err-attempt-in-Try-clause-same : goal.returns-in_err-attempt-in-T
 returns-in_err-attempt-in-Try-clause-same g c =
     AreSameMembers-trans g.D.Disk c.args.members.now c.loop.members c.attempt.new.members c.loop.invariant.drives.same c.attempt.ensures.same
 
-pub returns-in_err-attempt-in-Try-clause-cause : goal.returns-in_err-attempt-in-Try-clause-cause
-returns-in_err-attempt-in-Try-clause-cause g c =
-    halts_on g.D.Disk c.from_residual.result c.in_err-attempt-in-Try.field-0.0 c.args.members.now c.attempt.new.members c.from_residual.ensures.1
-    (HaltCause-later g.D.Disk c.args.members.now c.loop.members c.attempt.new.members c.in_err-attempt-in-Try.field-0.0 c.loop.invariant.drives.same c.in_err-attempt-in-Try.ensures.cause)
-
 pub loop-preserved-in-Forget : goal.loop-preserved-in-Forget
 loop-preserved-in-Forget g c =
     let on = on_forgotten c.args.sessions.now (length c.args.members.now.primaries.items) c.loop.schedule.tries.items c.loop.invariant.on in
@@ -42,11 +37,6 @@ loop-preserved-in-Forget g c =
 pub returns-in_err-settle-in-Over-clause-same : goal.returns-in_err-settle-in-Over-clause-same
 returns-in_err-settle-in-Over-clause-same g c =
     AreSameMembers-trans g.D.Disk c.args.members.now c.loop.members c.settle.new.members c.loop.invariant.drives.same c.settle.ensures.same
-
-pub returns-in_err-settle-in-Over-clause-cause : goal.returns-in_err-settle-in-Over-clause-cause
-returns-in_err-settle-in-Over-clause-cause g c =
-    halts_on g.D.Disk c.from_residual-in_err-settle-in-Over.result c.in_err-settle-in-Over.field-0.0 c.args.members.now c.settle.new.members c.from_residual-in_err-settle-in-Over.ensures.1
-    (HaltCause-later g.D.Disk c.args.members.now c.loop.members c.settle.new.members c.in_err-settle-in-Over.field-0.0 c.loop.invariant.drives.same c.in_err-settle-in-Over.ensures.cause)
 
 pub returns-then-branch-clause-ended : goal.returns-then-branch-clause-ended
 returns-then-branch-clause-ended g c = λ work given runs.

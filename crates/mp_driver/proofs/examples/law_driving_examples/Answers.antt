@@ -1,16 +1,13 @@
-use Rattle.std.proofs.Common.{◌≡◌, ℕ, ◌==◌, Bool, Option, None, List, [], ◌∷◌, length, Some, if◌then◌else◌, refl, sym, ap, subst, ◌∙◌, eq-eqb, append-nil}
+use Rattle.std.proofs.Common.{◌≡◌, ◌≢◌, ℕ, ◌==◌, Bool, Option, None, List, [], ◌∷◌, length, Some, if◌then◌else◌, refl, sym, ap, subst, ◌∙◌, eq-eqb, append-nil}
 use Rattle.std.specs.Prelude.{slice_get}
 use Rattle.mp_model.specs.declared.replies.Answer.{Answer}
 use Rattle.mp_model.specs.declared.waiting.Turn.TheVariants as turns
-use Rattle.mp_script.proofs.Options.{not_some}
+use Rattle.mp_script.proofs.Options.{some_is, not_some}
 use Rattle.mp_verdict.specs.Orders.{NodeEntry}
 use Rattle.mp_primary.specs.Primaries.{PrimaryView}
 use Rattle.mp_members.specs.Running.{Runs}
 use Rattle.mp_driver.proofs.Turned.{DrivesOn-refl}
 use Rattle.mp_driver.proofs.examples.law_driving_examples.Goals as goal
-
-two_one : ◌≡◌ {A = ℕ} 2 1 → ⊥
-two_one e = absurd cc
 
 a_frame : (frames : List ℕ) → frames ≡ 5 ∷ [] → frames ≡ [] → ⊥
 a_frame frames one none = absurd cc
@@ -36,6 +33,12 @@ returns-clause-through_there g c = λ m none pr is. absurd (not_some pr (sym (ap
 pub returns-clause-not_through_there : goal.returns-clause-not_through_there
 returns-clause-not_through_there g c = λ m not_all all. not_all (λ place pr is. all place pr is)
 
+pub returns-clause-down_there : goal.returns-clause-down_there
+returns-clause-down_there g c = λ m pr one down here is. subst (λ (p : PrimaryView g.row.D.Denot). p.down ≢ 0) (some_is pr here (sym (ap (λ (l : List (PrimaryView g.row.D.Denot)). slice_get l 0) one) ∙ is)) down
+
+pub returns-clause-not_down_there : goal.returns-clause-not_down_there
+returns-clause-not_down_there g c = λ m pr is up down. down pr is up
+
 pub returns-clause-somehow : goal.returns-clause-somehow
 returns-clause-somehow g c = λ work m given runs. (work, given, runs)
 
@@ -59,26 +62,14 @@ returns-clause-turn g c = λ m place session. record {
   drives = DrivesOn-refl g.D.Disk m;
   others = λ other apart. refl;
   through = λ none done. absurd (some_not_none session none);
-  up = λ by is. answered_not_stopped by is;
+  down = λ by is. absurd (answered_not_stopped by is);
 }
 
 pub returns-clause-stopped : goal.returns-clause-stopped
-returns-clause-stopped g c = λ old new place by session turn. turn.up by refl
+returns-clause-stopped g c = λ old new place by session pr is up turn. turn.down by refl pr is up
 
 pub returns-clause-ended : goal.returns-clause-ended
 returns-clause-ended g c = λ m through work given runs. ([], subst (λ (l : List NodeEntry). Runs g.D.Disk work m l) (sym (append-nil given)) runs, through)
 
 pub returns-clause-not_ended : goal.returns-clause-not_ended
 returns-clause-not_ended g c = λ work m runs not_all ends. not_all (ends work [] runs).2
-
-pub returns-clause-stop : goal.returns-clause-stop
-returns-clause-stop g c = λ old new. tt
-
-pub returns-clause-stop_of_another : goal.returns-clause-stop_of_another
-returns-clause-stop_of_another g c = λ old new one stop. two_one (stop.0 ∙ one)
-
-pub returns-clause-cause : goal.returns-clause-cause
-returns-clause-cause g c = λ old new. tt
-
-pub returns-clause-not_there : goal.returns-clause-not_there
-returns-clause-not_there g c = λ old new none failed. not_some failed.before (sym (ap (λ (l : List (PrimaryView g.row.D.Denot)). slice_get l failed.place) none) ∙ failed.was)

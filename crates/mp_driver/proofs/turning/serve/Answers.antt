@@ -1,7 +1,7 @@
 -- A turn more of a run that went on so far.
 use Rattle.std.proofs.Common.{arith}
 use Rattle.mp_members.proofs.SameMembers.{AreSameMembers-trans}
-use Rattle.mp_driver.proofs.Turned.{DrivesOn-trans, runs_still, HaltCause-later, halts_on}
+use Rattle.mp_driver.proofs.Turned.{DrivesOn-trans, runs_still}
 use Rattle.mp_driver.proofs.turning.serve.Goals as goal
 
 pub turn_at-requires-clause-runs : goal.turn_at-requires-clause-runs
@@ -15,11 +15,6 @@ turn_at-requires-clause-place g c =
 
 pub returns-in_err-_turn-clause-same : goal.returns-in_err-_turn-clause-same
 returns-in_err-_turn-clause-same g c = AreSameMembers-trans g.D.Disk c.args.members.now c.loop-place.members c.turn_at.new.members c.loop-place.invariant.same c.turn_at.ensures.same
-
-pub returns-in_err-_turn-clause-cause : goal.returns-in_err-_turn-clause-cause
-returns-in_err-_turn-clause-cause g c =
-    halts_on g.D.Disk c.from_residual.result c.in_err-_turn.field-0.0 c.args.members.now c.turn_at.new.members c.from_residual.ensures.1
-    (HaltCause-later g.D.Disk c.args.members.now c.loop-place.members c.turn_at.new.members c.in_err-_turn.field-0.0 c.loop-place.invariant.same c.in_err-_turn.ensures.cause)
 
 pub loop-place-preserved : goal.loop-place-preserved
 loop-place-preserved g c = DrivesOn-trans g.D.Disk c.args.members.now c.loop-place.members c.turn_at.new.members c.loop-place.invariant c.in_ok-_turn.ensures.turn.drives

@@ -1,4 +1,4 @@
--- The run went on so far, and the primaries before this place have nothing left.
+-- The run went on so far, and the primaries before this place are through.
 use Rattle.std.proofs.Common.{ℕ, ◌<◌}
 use Rattle.mp_driver.specs.Driving.{DrivesOn, IsThroughAt}
 use Rattle.mp_driver.proofs.turning.settle.Given as goal

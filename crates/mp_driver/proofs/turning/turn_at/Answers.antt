@@ -1,7 +1,7 @@
 -- The primary at the place is a member, and took the turn.
 use Rattle.std.proofs.Common.{◌≡◌, length, slice_get, Some, refl}
 use Rattle.std.proofs.lemmas.Option.{slice_get_read}
-use Rattle.mp_driver.proofs.Turned.{may_named, same_members_at, turn_so, halt_so}
+use Rattle.mp_driver.proofs.Turned.{may_named, same_members_at, turn_so}
 use Rattle.mp_driver.proofs.turning.turn_at.Goals as goal
 
 pub take_turn-requires-clause-stands : goal.take_turn-requires-clause-stands
@@ -18,12 +18,12 @@ take_turn-requires-clause-session g c =
     let at : slice_get m.primaries.items c.args.place ≡ Some pr = slice_get_read m.primaries.items (length m.primaries.items) c.args.place pr refl c.requires.place c.index_mut.ensures.value in
     may_named g.D.Disk pr c.args.session ((c.requires.runs.2).each c.args.place pr at).may_turn c.requires.session
 
-pub take_turn-requires-clause-up : goal.take_turn-requires-clause-up
-take_turn-requires-clause-up g c =
+pub take_turn-requires-clause-told : goal.take_turn-requires-clause-told
+take_turn-requires-clause-told g c =
     let m = c.args.members.now in
     let pr = c.index_mut.result.now in
     let at : slice_get m.primaries.items c.args.place ≡ Some pr = slice_get_read m.primaries.items (length m.primaries.items) c.args.place pr refl c.requires.place c.index_mut.ensures.value in
-    ((c.requires.runs.2).each c.args.place pr at).up
+    ((c.requires.runs.2).each c.args.place pr at).told
 
 pub returns-clause-turn : goal.returns-clause-turn
 returns-clause-turn g c =
@@ -32,7 +32,7 @@ returns-clause-turn g c =
     let at : slice_get m.primaries.items c.args.place ≡ Some pr = slice_get_read m.primaries.items (length m.primaries.items) c.args.place pr refl c.requires.place c.index_mut.ensures.value in
     turn_so g.D.Disk c.args.place c.args.session m _ pr c.take_turn.new.primary at refl refl
     (same_members_at g.D.Disk c.args.place m _ pr c.take_turn.new.primary at refl refl refl c.take_turn.ensures.same)
-    c.take_turn.result c.take_turn.ensures.turn c.take_turn.ensures.still_up c.take_turn.ensures.order
+    c.take_turn.result c.take_turn.ensures.turn c.take_turn.ensures.order
 
 pub returns-clause-same : goal.returns-clause-same
 returns-clause-same g c =
@@ -40,10 +40,3 @@ returns-clause-same g c =
     let pr = c.index_mut.result.now in
     let at : slice_get m.primaries.items c.args.place ≡ Some pr = slice_get_read m.primaries.items (length m.primaries.items) c.args.place pr refl c.requires.place c.index_mut.ensures.value in
     same_members_at g.D.Disk c.args.place m _ pr c.take_turn.new.primary at refl refl refl c.take_turn.ensures.same
-
-pub returns-clause-cause : goal.returns-clause-cause
-returns-clause-cause g c =
-    let m = c.args.members.now in
-    let pr = c.index_mut.result.now in
-    let at : slice_get m.primaries.items c.args.place ≡ Some pr = slice_get_read m.primaries.items (length m.primaries.items) c.args.place pr refl c.requires.place c.index_mut.ensures.value in
-    halt_so g.D.Disk c.args.place m _ pr c.take_turn.new.primary at refl ((c.requires.runs.2).each c.args.place pr at).number c.take_turn.result c.take_turn.ensures.cause

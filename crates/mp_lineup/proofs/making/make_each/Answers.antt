@@ -40,6 +40,7 @@ loop-place-preserved g c =
       primary = c.in-Ok.ensures.primary;
       none = c.in-Ok.ensures.none;
       agrees = c.in-Ok.ensures.agrees;
+      told = c.in-Ok.ensures.told;
       may_turn = c.in-Ok.ensures.sessions;
     } in
     record {

@@ -1,5 +1,6 @@
-use Rattle.std.proofs.Common.{◌≡◌, ℕ, List, length, refl, sym, ap, ◌∙◌, arith}
+use Rattle.std.proofs.Common.{◌≡◌, ℕ, List, length, refl, sym, ap, ◌∙◌, inr, ⊎_elim, arith}
 use Rattle.std.specs.Prelude.{slice_get}
+use Rattle.mp_files.proofs.Nines.{StillDisk-refl}
 use Rattle.mp_script.proofs.Options.{not_some}
 use Rattle.mp_primary.specs.Primaries.{PrimaryView}
 use Rattle.mp_members.proofs.SameMembers.{IsSameMember-refl, AreSameMembers-refl}
@@ -11,11 +12,38 @@ two_one e = absurd cc
 zero_one : ◌≡◌ {A = ℕ} 0 1 → ⊥
 zero_one e = absurd cc
 
+one_zero : ◌≡◌ {A = ℕ} 1 0 → ⊥
+one_zero e = absurd cc
+
 pub returns-clause-same_member : goal.returns-clause-same_member
 returns-clause-same_member g c = λ pr. IsSameMember-refl g.D.Disk pr
 
 pub returns-clause-another_number : goal.returns-clause-another_number
 returns-clause-another_number g c = λ old new one two same. two_one (sym two ∙ same.number ∙ one)
+
+pub returns-clause-up_again : goal.returns-clause-up_again
+returns-clause-up_again g c = λ old new was up same. zero_one (sym up ∙ same.stays (λ none. one_zero (sym was ∙ none)) ∙ was)
+
+pub returns-clause-fell : goal.returns-clause-fell
+returns-clause-fell g c = λ pr up rose. record {
+  number = refl;
+  work_is = refl;
+  disk = StillDisk-refl g.D.Disk pr.media.log.disk;
+  fell = λ down. inr rose;
+  stays = λ down. absurd (down up);
+}
+
+pub returns-clause-not_fell : goal.returns-clause-not_fell
+returns-clause-not_fell g c = λ pr number up still same. ⊎_elim (λ (was : pr.down ≡ pr.number). zero_one (sym up ∙ was ∙ number)) still (same.fell (sym number))
+
+pub returns-clause-fell_with : goal.returns-clause-fell_with
+returns-clause-fell_with g c = λ pr number up. record {
+  number = refl;
+  work_is = refl;
+  disk = StillDisk-refl g.D.Disk pr.media.log.disk;
+  fell = λ down. absurd (two_one (down ∙ number));
+  stays = λ down. absurd (down up);
+}
 
 pub returns-clause-same : goal.returns-clause-same
 returns-clause-same g c = λ m. AreSameMembers-refl g.D.Disk m

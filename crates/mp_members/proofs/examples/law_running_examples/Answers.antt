@@ -4,6 +4,7 @@ use Rattle.mp_book.specs.declared.session.Session.{Session}
 use Rattle.mp_book.specs.Through.{have_no_task}
 use Rattle.mp_script.proofs.Options.{not_some}
 use Rattle.mp_primary.specs.Primaries.{PrimaryView}
+use Rattle.mp_primary.specs.Answering.{have_no_line}
 use Rattle.mp_members.proofs.examples.law_running_examples.Goals as goal
 
 nothing_some : {T : Type 0} (x : T) (xs : List T) → x ∷ xs ≡ [] → ⊥
@@ -11,6 +12,9 @@ nothing_some x xs e = absurd cc
 
 one_zero : ◌≡◌ {A = ℕ} 1 0 → ⊥
 one_zero e = absurd cc
+
+two_zero : ◌≡◌ {A = ℕ} 2 0 → ⊥
+two_zero e = absurd cc
 
 false_true : false ≡ true → ⊥
 false_true e = absurd cc
@@ -26,14 +30,26 @@ pub returns-clause-through : goal.returns-clause-through
 returns-clause-through g c = λ m none place pr is. absurd (not_some pr (sym (ap (λ (l : List (PrimaryView g.row.D.Denot)). slice_get l place) none) ∙ is))
 
 pub returns-clause-not_through : goal.returns-clause-not_through
-returns-clause-not_through g c = λ m pr one has through.
-    false_true (sym (ap (λ (l : List Session). have_no_task l) has) ∙ through 0 pr (ap (λ (l : List (PrimaryView g.row.D.Denot)). slice_get l 0) one))
+returns-clause-not_through g c = λ m pr one up has through.
+    false_true (sym (ap (λ (l : List Session). have_no_task l) has) ∙ (through 0 pr (ap (λ (l : List (PrimaryView g.row.D.Denot)). slice_get l 0) one)).nothing up)
+
+pub returns-clause-down_through : goal.returns-clause-down_through
+returns-clause-down_through g c = λ pr down has. record {
+  answered = ap (λ (l : List Session). have_no_line l) has;
+  nothing = λ up. absurd (two_zero (sym down ∙ up));
+}
+
+pub returns-clause-up_not_through : goal.returns-clause-up_not_through
+returns-clause-up_not_through g c = λ pr up has through. false_true (sym (ap (λ (l : List Session). have_no_task l) has) ∙ through.nothing up)
+
+pub returns-clause-unanswered : goal.returns-clause-unanswered
+returns-clause-unanswered g c = λ pr has through. false_true (sym (ap (λ (l : List Session). have_no_line l) has) ∙ through.answered)
 
 pub returns-clause-member : goal.returns-clause-member
-returns-clause-member g c = λ m pr up stands agrees may. record { number = refl; work_is = refl; up = up; stands = stands; agrees = agrees; may_turn = may }
+returns-clause-member g c = λ m pr stands agrees told may. record { number = refl; work_is = refl; stands = stands; agrees = agrees; told = told; may_turn = may }
 
 pub returns-clause-not_member : goal.returns-clause-not_member
-returns-clause-not_member g c = λ work m given n pr down is. one_zero (sym down ∙ is.up)
+returns-clause-not_member g c = λ work m given n pr q has up down is. one_zero (sym down ∙ sym (is.told q has) ∙ up)
 
 pub returns-clause-not_in_order : goal.returns-clause-not_in_order
 returns-clause-not_in_order g c = λ work m x given none runs. nothing_some x.node _ (sym runs.order ∙ none)
