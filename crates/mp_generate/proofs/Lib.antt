@@ -1,0 +1,7 @@
+mod Filling
+mod Rows
+mod Values
+mod Rounds
+mod Telling
+mod Counting
+mod Keys

@@ -1,0 +1,8 @@
+mod CountedOn
+mod Pieces
+mod BySession
+mod AllAnswered
+mod GeneratedLines
+mod EachOnce
+mod Untroubled
+mod OneSummary
