@@ -1,10 +1,11 @@
 -- What the bytes come to, by what their script or their refusal came to; and what a script comes to, by what its run did.
-use Rattle.std.proofs.Common.{◌≡◌, ℕ, List, [], Some, inl, inr}
+use Rattle.std.proofs.Common.{◌≡◌, ◌∙◌, ℕ, List, [], ◌∷◌, Option, Some, None, inl, inr, refl, sym}
+use Rattle.mp_model.specs.declared.transcripts.Down.{Down}
 use Rattle.mp_model.specs.declared.transcripts.Mode.TheVariants as mode
 use Rattle.mp_model.specs.declared.transcripts.Transcript.{Transcript}
 use Rattle.mp_outside.specs.declared.disks.Disk.{Ghosts}
 use Rattle.mp_files.specs.declared.disks.Disks.{Disks}
-use Rattle.mp_files.specs.Nine.{AllTell, as_read}
+use Rattle.mp_files.specs.Nine.{AllTell, Every, as_read}
 use Rattle.mp_report.specs.Readable.{IsReadable}
 use Rattle.mp_script.specs.declared.statements.Script.{Script}
 use Rattle.mp_script.specs.Faults.{FaultAt, script_fault}
@@ -13,22 +14,23 @@ use Rattle.mp_commands.specs.declared.faults.DiskFault.TheVariants as faults
 use Rattle.mp_opening.specs.declared.refusals.ClusterRefusal.{ClusterRefusal}
 use Rattle.mp_opening.specs.declared.refusals.ClusterRefusal.TheVariants as cluster
 use Rattle.mp_opening.specs.Openings.{MayBegin, RefusesRun, RunCause}
-use Rattle.mp_cluster.specs.Runs.{IsLegalRun, RunLeaves, transactions_of}
+use Rattle.mp_cluster.specs.Runs.{DownsHaveFailed, IsLegalRun, IsLeftOfRun, RunLeaves, transactions_of}
 use Rattle.mp_app.specs.declared.output.Output.{Output}
 use Rattle.mp_app.specs.declared.status.Status.{Status}
 use Rattle.mp_app.specs.declared.status.Status.TheVariants.{Done, Usage, Script as BadScript, Store, Stopped, Source, Sink, Disk, Memory}
 use Rattle.mp_app.specs.Answered.{BytesSay, ScriptSays}
-use Rattle.mp_app.specs.Printed.{text_of, Prints, PrintsFault, PrintsTranscript, PrintsRunRefusal}
+use Rattle.mp_app.specs.Outcomes.{run_text}
+use Rattle.mp_app.specs.Printed.{text_of, Prints, PrintsFault, status_of_downs, PrintsRun, PrintsRunRefusal}
 use Rattle.mp_app.specs.Texts.{no_memory_text}
 
 module _ {D : Type 0} (g : Ghosts D) where
-  pub says_script : (bytes : List ℕ) (script : Script) (old new : Disks D) (status : Status) (text : List ℕ) → Spells bytes script → ScriptSays g script old new status text
+  pub says_script : (bytes : List ℕ) (script : Script) (old new : Disks D) (status : Status) (text : List ℕ) → Spells bytes script → ScriptSays g None script old new status text
       → BytesSay g bytes old new status text
   says_script bytes script old new Done text spelled says = (script, spelled, says)
   says_script bytes script old new Usage text spelled says = absurd says
   says_script bytes script old new BadScript text spelled says = absurd says
   says_script bytes script old new Store text spelled says = (script, spelled, says)
-  says_script bytes script old new Stopped text spelled says = absurd says
+  says_script bytes script old new Stopped text spelled says = (script, spelled, says)
   says_script bytes script old new Source text spelled says = absurd says
   says_script bytes script old new Sink text spelled says = absurd says
   says_script bytes script old new Disk text spelled says = (script, spelled, says)
@@ -42,27 +44,40 @@ module _ {D : Type 0} (g : Ghosts D) where
   pub says_memory : (bytes : List ℕ) (disks : Disks D) (output : Output) → Prints Memory no_memory_text output → BytesSay g bytes disks disks output.status (text_of output.printed)
   says_memory bytes disks output prints = rw prints.0 prints.1
 
-  -- a transcript is printed as one that may be
-  pub run_done : (script : Script) (old new : Disks D) (transcript : Transcript) (output : Output) → (AllTell g old → MayBegin (as_read g old) (transactions_of script))
-      → IsLegalRun g old script transcript → IsReadable transcript → transcript.mode ≡ mode.Step → transcript.downs.items ≡ [] → PrintsTranscript transcript output
-      → ScriptSays g script old new output.status (text_of output.printed)
-  run_done script old new transcript output begins legal readable in_mode up (inl says) =
-      rw says.0 (begins, record { transcript = transcript; mode = in_mode; up = up; legal = legal; readable = readable; printed = says.1 })
-  run_done script old new transcript output begins legal readable in_mode up (inr says) = rw says.0 says.1
+  -- a transcript is printed as one that may be, by its `down` lines
+  said_by_downs : (number : Option ℕ) (script : Script) (old new : Disks D) (transcript : Transcript) (text : List ℕ) → (AllTell g old → MayBegin (as_read g old) (transactions_of script))
+      → IsLegalRun g old script transcript → IsReadable transcript → transcript.mode ≡ mode.Step → DownsHaveFailed g old new transcript
+      → (AllTell g old → Every g new (IsLeftOfRun (as_read g old) script transcript)) → text ≡ run_text number script transcript
+      → (downs : List Down) → transcript.downs.items ≡ downs → ScriptSays g number script old new (status_of_downs downs) text
+  said_by_downs number script old new transcript text begins legal readable in_mode failed left printed [] is =
+      (begins, record { transcript = transcript; run = record { mode = in_mode; downs = is; failed = failed; legal = legal; readable = readable; left = left }; printed = printed })
+  said_by_downs number script old new transcript text begins legal readable in_mode failed left printed (down ∷ downs) is =
+      (begins, record { transcript = transcript; run = record { mode = in_mode; downs = λ none. differ (sym is ∙ none); failed = failed; legal = legal; readable = readable; left = left }; printed = printed })
+    where
+      differ : down ∷ downs ≡ [] → ⊥
+      differ e = cc
+
+  pub run_done : (number : Option ℕ) (script : Script) (old new : Disks D) (transcript : Transcript) (output : Output) → (AllTell g old → MayBegin (as_read g old) (transactions_of script))
+      → IsLegalRun g old script transcript → IsReadable transcript → transcript.mode ≡ mode.Step → DownsHaveFailed g old new transcript
+      → (AllTell g old → Every g new (IsLeftOfRun (as_read g old) script transcript)) → PrintsRun (run_text number script transcript) transcript output
+      → ScriptSays g number script old new output.status (text_of output.printed)
+  run_done number script old new transcript output begins legal readable in_mode failed left (inl says) =
+      rw says.0 (said_by_downs number script old new transcript (text_of output.printed) begins legal readable in_mode failed left says.1 transcript.downs.items refl)
+  run_done number script old new transcript output begins legal readable in_mode failed left (inr says) = rw says.0 says.1
 
   -- and a refusal of a run as what it is
-  pub run_refused : (script : Script) (old new : Disks D) (refusal : ClusterRefusal) (output : Output) → (AllTell g old → RefusesRun (as_read g old) (transactions_of script) refusal)
-      → RunLeaves g old new refusal → RunCause g old new refusal → PrintsRunRefusal refusal output → ScriptSays g script old new output.status (text_of output.printed)
-  run_refused script old new (cluster.Store place) output first left cause (inl says) = rw says.0 (cluster.Store place, tt, first, left, says.1)
-  run_refused script old new (cluster.Store place) output first left cause (inr says) = rw says.0 says.1
-  run_refused script old new cluster.StoreDisk output first left cause says = rw says.0 (record { fault = faults.Store; rose = cause; printed = says.1 })
-  run_refused script old new (cluster.Log primary place) output first left cause (inl says) = rw says.0 (cluster.Log primary place, tt, first, left, says.1)
-  run_refused script old new (cluster.Log primary place) output first left cause (inr says) = rw says.0 says.1
-  run_refused script old new (cluster.LogDisk primary) output first left cause (inl says) = rw says.0 (record { fault = faults.Log primary; rose = cause; printed = says.1 })
-  run_refused script old new (cluster.LogDisk primary) output first left cause (inr says) = rw says.0 says.1
-  run_refused script old new (cluster.NeedsRecover primary llsn) output first left cause (inl says) = rw says.0 (cluster.NeedsRecover primary llsn, tt, first, left, says.1)
-  run_refused script old new (cluster.NeedsRecover primary llsn) output first left cause (inr says) = rw says.0 says.1
-  run_refused script old new cluster.NotClean output first left cause says = rw says.0 (cluster.NotClean, tt, first, left, says.1)
-  run_refused script old new (cluster.Spent what base add) output first left cause (inl says) = rw says.0 (cluster.Spent what base add, tt, first, left, says.1)
-  run_refused script old new (cluster.Spent what base add) output first left cause (inr says) = rw says.0 says.1
-  run_refused script old new cluster.Memory output first left cause says = rw says.0 says.1
+  pub run_refused : (number : Option ℕ) (script : Script) (old new : Disks D) (refusal : ClusterRefusal) (output : Output) → (AllTell g old → RefusesRun (as_read g old) (transactions_of script) refusal)
+      → RunLeaves g old new refusal → RunCause g old new refusal → PrintsRunRefusal refusal output → ScriptSays g number script old new output.status (text_of output.printed)
+  run_refused number script old new (cluster.Store place) output first left cause (inl says) = rw says.0 (cluster.Store place, tt, first, left, says.1)
+  run_refused number script old new (cluster.Store place) output first left cause (inr says) = rw says.0 says.1
+  run_refused number script old new cluster.StoreDisk output first left cause says = rw says.0 (record { names = record { fault = faults.Store; rose = cause; printed = says.1 }; kept = left })
+  run_refused number script old new (cluster.Log primary place) output first left cause (inl says) = rw says.0 (cluster.Log primary place, tt, first, left, says.1)
+  run_refused number script old new (cluster.Log primary place) output first left cause (inr says) = rw says.0 says.1
+  run_refused number script old new (cluster.LogDisk primary) output first left cause (inl says) = rw says.0 (record { names = record { fault = faults.Log primary; rose = cause; printed = says.1 }; kept = left })
+  run_refused number script old new (cluster.LogDisk primary) output first left cause (inr says) = rw says.0 says.1
+  run_refused number script old new (cluster.NeedsRecover primary llsn) output first left cause (inl says) = rw says.0 (cluster.NeedsRecover primary llsn, tt, first, left, says.1)
+  run_refused number script old new (cluster.NeedsRecover primary llsn) output first left cause (inr says) = rw says.0 says.1
+  run_refused number script old new cluster.NotClean output first left cause says = rw says.0 (cluster.NotClean, tt, first, left, says.1)
+  run_refused number script old new (cluster.Spent what base add) output first left cause (inl says) = rw says.0 (cluster.Spent what base add, tt, first, left, says.1)
+  run_refused number script old new (cluster.Spent what base add) output first left cause (inr says) = rw says.0 says.1
+  run_refused number script old new cluster.Memory output first left cause says = rw says.0 says.1

@@ -1,9 +1,11 @@
 -- Where nothing failed and what the command reads is of its grammar, what is said is that it is done, or that there was no memory.
-use Rattle.std.proofs.Common.{◌≡◌, ◌∙◌, ◌≤◌, ◌⊎◌, ℕ, List, length, Option, Some, None, IsTrue, inl, inr, refl, sym, ap, subst, arith}
+use Rattle.std.proofs.Common.{◌≡◌, ◌≢◌, ◌∙◌, ◌≤◌, ◌⊎◌, ℕ, List, [], ◌∷◌, length, Option, Some, None, IsTrue, inl, inr, refl, sym, ap, subst, arith}
 use Rattle.std.proofs.lemmas.List.{take_all}
+use Rattle.std.specs.List.{AllByRecursion}
+use Rattle.mp_model.specs.declared.transcripts.Down.{Down}
 use Rattle.mp_outside.specs.declared.disks.Disk.{Ghosts}
 use Rattle.mp_files.specs.declared.disks.Disks.{Disks}
-use Rattle.mp_files.specs.Nine.{seen_at, as_read}
+use Rattle.mp_files.specs.Nine.{LogRose, seen_at, as_read}
 use Rattle.mp_commands.specs.LogTexts.{LogFault, fault_below, TellBelow}
 use Rattle.mp_commands.proofs.LogsBelow.{fault_stays, all_below}
 use Rattle.mp_commands.specs.Fresh.{Explains}
@@ -20,14 +22,14 @@ use Rattle.mp_opening.specs.Openings.{MayBegin}
 use Rattle.mp_cluster.specs.Runs.{transactions_of}
 use Rattle.mp_app.specs.declared.commands.Command.{Command}
 use Rattle.mp_app.specs.declared.commands.Command.TheVariants.{Session, Plain}
-use Rattle.mp_app.specs.declared.commands.PlainCommand.TheVariants.{Init, Recover, Dump, Logs}
+use Rattle.mp_app.specs.declared.commands.PlainCommand.TheVariants.{Init, Recover, Dump, Logs, Gen}
 use Rattle.mp_app.specs.declared.commands.SessionCommand.TheVariants.{Step}
 use Rattle.mp_app.specs.declared.status.Status.{Status}
 use Rattle.mp_app.specs.declared.status.Status.TheVariants.{Done, Usage, Script as BadScript, Store, Stopped, Source, Sink, Disk, Memory}
 use Rattle.mp_app.specs.Calls.{SourceUse, ReadToItsEnd, ReadUpToTheBound}
 use Rattle.mp_app.specs.Commands.{Names}
-use Rattle.mp_app.specs.Complete.{MayStep, NothingRose, MayRecover, IsInOrder}
-use Rattle.mp_app.specs.Outcomes.{ReadsScript, RefusesItsScript, StepSays, DumpSays, InitSays, IsOfContent, FaultsRose, RecoverSays, LogsSays, CommandSays, Says}
+use Rattle.mp_app.specs.Complete.{MayStep, MayStepNumber, NothingRose, MayRecover, IsInOrder}
+use Rattle.mp_app.specs.Outcomes.{ReadsScript, RefusesItsScript, StepSays, DumpSays, InitSays, GenSays, IsOfContent, FaultsRose, RecoverSays, LogsSays, CommandSays, Says}
 use Rattle.mp_app.proofs.NamedOnce.{named_once}
 use Rattle.mp_app.proofs.RunsBegin.{none_some, never_refused}
 
@@ -52,23 +54,56 @@ same_begins source told script read is spelled reads =
     let same = spelled-once told script read spelled (subst (λ bytes. Spells bytes read) whole.0 reads.spelled) in
     ap (λ lines. length (begin_names lines)) (sym same.lines)
 
+-- a number's script is printed, or there was no memory
+gen_answered : (number : ℕ) (status : Status) (text : List ℕ) → GenSays number status text → IsAnswered status
+gen_answered number Done text says = inl refl
+gen_answered number Usage text says = absurd says
+gen_answered number BadScript text says = absurd says
+gen_answered number Store text says = absurd says
+gen_answered number Stopped text says = absurd says
+gen_answered number Source text says = absurd says
+gen_answered number Sink text says = absurd says
+gen_answered number Disk text says = absurd says
+gen_answered number Memory text says = inr refl
+
 module _ {D : Type 0} (g : Ghosts D) (source : SourceUse) (sink sink_after : ℕ) (old new : Disks D) (nothing : NothingRose g source sink sink_after old new) where
   no_faults_rose : (fault : DiskFault) → FaultsRose g fault old new → ⊥
   no_faults_rose StoreFailed rose = nothing.no_store rose
   no_faults_rose (LogFailed primary) rose = nothing.no_log primary rose
 
-  step_answered : MayStep g source.left old → (status : Status) (text : List ℕ) → StepSays g source old new status text → IsAnswered status
+  -- and no primary went down
+  nobody_down : (downs : List Down) → AllByRecursion (λ down. LogRose g down.by old new) downs → downs ≢ [] → ⊥
+  nobody_down [] failed some = some refl
+  nobody_down (down ∷ downs) failed some = nothing.no_log down.by failed.0
+
+  step_answered : MayStep g source.left old → (status : Status) (text : List ℕ) → StepSays g None source old new status text → IsAnswered status
   step_answered may Done text says = inl refl
   step_answered may Usage text says = absurd says
   step_answered may BadScript text says = absurd (not_refused source text may.bytes may.script may.told may.spelled says)
   step_answered may Store text says =
-      let begins = subst (MayBegin (as_read g old)) (same_begins source may.bytes may.script says.script may.told may.spelled says.reads) may.begins in
+      let begins = subst (MayBegin (as_read g old)) (same_begins source may.bytes may.script says.script may.told may.spelled says.its) may.begins in
       absurd (never_refused (as_read g old) (transactions_of says.script) begins says.refusal says.content (says.first may.disks_told))
-  step_answered may Stopped text says = absurd says
+  step_answered may Stopped text says =
+      let answered = says.answered in
+      absurd (nobody_down answered.transcript.downs.items answered.run.failed answered.run.downs)
   step_answered may Source text says = absurd (nothing.no_source says.0)
   step_answered may Sink text says = absurd says
-  step_answered may Disk text says = absurd (no_faults_rose says.fault says.rose)
+  step_answered may Disk text says = absurd (no_faults_rose says.names.fault says.names.rose)
   step_answered may Memory text says = inr refl
+
+  number_answered : (number : ℕ) → MayStepNumber g number old → (status : Status) (text : List ℕ) → StepSays g (Some number) source old new status text → IsAnswered status
+  number_answered number may Done text says = inl refl
+  number_answered number may Usage text says = absurd says
+  number_answered number may BadScript text says = absurd says
+  number_answered number may Store text says =
+      absurd (never_refused (as_read g old) (transactions_of says.script) (may.begins says.script says.its) says.refusal says.content (says.first may.disks_told))
+  number_answered number may Stopped text says =
+      let answered = says.answered in
+      absurd (nobody_down answered.transcript.downs.items answered.run.failed answered.run.downs)
+  number_answered number may Source text says = absurd says
+  number_answered number may Sink text says = absurd says
+  number_answered number may Disk text says = absurd (no_faults_rose says.names.fault says.names.rose)
+  number_answered number may Memory text says = inr refl
 
   dump_answered : IsInOrder g (Plain Dump) source old → (status : Status) (text : List ℕ) → DumpSays g old.store new.store status text → IsAnswered status
   dump_answered order Done text says = inl refl
@@ -139,11 +174,13 @@ module _ {D : Type 0} (g : Ghosts D) (source : SourceUse) (sink sink_after : ℕ
   recover_answered may Memory text says = inr refl
 
   command_answered : (command : Command) → IsInOrder g command source old → (status : Status) (text : List ℕ) → CommandSays g command source old new status text → IsAnswered status
-  command_answered (Session Step) order = step_answered order
+  command_answered (Session (Step None)) order = step_answered order
+  command_answered (Session (Step (Some number))) order = number_answered number order
   command_answered (Plain Init) order = init_answered
   command_answered (Plain Recover) order = recover_answered order
   command_answered (Plain Dump) order = dump_answered order
   command_answered (Plain Logs) order = logs_answered order
+  command_answered (Plain (Gen number)) order = gen_answered number
 
   -- what is said where the words name the command
   pub completes : (words : List (List ℕ)) (command : Command) → Names words command → IsInOrder g command source old → (status : Status) (text : List ℕ) → Says g words source old new status text → IsAnswered status

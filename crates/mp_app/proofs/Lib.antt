@@ -6,3 +6,4 @@ mod Reading
 mod Refused
 mod RunsBegin
 mod SaidByCommands
+mod Summed

@@ -1,12 +1,14 @@
 -- The words of one command are no other's.
-use Rattle.std.proofs.Common.{◌≡◌, ◌∙◌, ◌==◌, if◌then◌else◌, ℕ, List, [], ◌∷◌, refl, sym, ap}
+use Rattle.std.proofs.Common.{◌≡◌, ◌∙◌, ◌==◌, if◌then◌else◌, ℕ, List, [], ◌∷◌, Option, Some, None, refl, sym, ap}
+use Rattle.std.specs.Str.Parse.{digits_value}
+use Rattle.std.proofs.lemmas.Fmt.{decimal_is_IsNumeral}
 use Rattle.mp_app.specs.declared.commands.Command.{Command}
 use Rattle.mp_app.specs.declared.commands.Command.TheVariants.{Session, Plain}
 use Rattle.mp_app.specs.declared.commands.PlainCommand.{PlainCommand}
-use Rattle.mp_app.specs.declared.commands.PlainCommand.TheVariants.{Init, Recover, Dump, Logs}
+use Rattle.mp_app.specs.declared.commands.PlainCommand.TheVariants.{Init, Recover, Dump, Logs, Gen}
 use Rattle.mp_app.specs.declared.commands.SessionCommand.{SessionCommand}
 use Rattle.mp_app.specs.declared.commands.SessionCommand.TheVariants.{Step}
-use Rattle.mp_app.specs.Commands.{words_of, Names}
+use Rattle.mp_app.specs.Commands.{words_of, HasItsNumber, Names}
 
 -- the first letter of the first word
 letter : List (List ℕ) → ℕ
@@ -14,20 +16,32 @@ letter [] = 0
 letter ([] ∷ words) = 0
 letter ((c ∷ cs) ∷ words) = c
 
--- the command with a first letter
-command_by : ℕ → Command
-command_by c = if c == 115 then Session Step else (if c == 105 then Plain Init else (if c == 114 then Plain Recover else (if c == 100 then Plain Dump else Plain Logs)))
+-- the number that the second word is
+number_in : List (List ℕ) → Option ℕ
+number_in [] = None
+number_in (word ∷ []) = None
+number_in (word ∷ (digits ∷ words)) = Some (digits_value 10 digits)
 
-by_letter : (command : Command) → command_by (letter (words_of command)) ≡ command
-unfolding letter command_by
-by_letter (Session Step) = refl
-by_letter (Plain Init) = refl
-by_letter (Plain Recover) = refl
-by_letter (Plain Dump) = refl
-by_letter (Plain Logs) = refl
+gen_of : Option ℕ → Command
+gen_of None = Plain Logs
+gen_of (Some number) = Plain (Gen number)
+
+-- the command with a first letter and a number
+command_by : ℕ → Option ℕ → Command
+command_by c number = if c == 115 then Session (Step number) else (if c == 105 then Plain Init else (if c == 114 then Plain Recover else (if c == 100 then Plain Dump else (if c == 108 then Plain Logs else gen_of number))))
+
+by_words : (command : Command) → HasItsNumber command → command_by (letter (words_of command)) (number_in (words_of command)) ≡ command
+unfolding letter number_in gen_of command_by
+by_words (Session (Step None)) has = refl
+by_words (Session (Step (Some number))) has = ap (λ n. Session (Step (Some n))) (decimal_is_IsNumeral number has).1
+by_words (Plain Init) has = refl
+by_words (Plain Recover) has = refl
+by_words (Plain Dump) has = refl
+by_words (Plain Logs) has = refl
+by_words (Plain (Gen number)) has = ap (λ n. Plain (Gen n)) (decimal_is_IsNumeral number has).1
 
 pub named_once : (words : List (List ℕ)) (one other : Command) → Names words one → Names words other → one ≡ other
-named_once words one other is is_too = sym (by_letter one) ∙ ap (λ w. command_by (letter w)) (sym is ∙ is_too) ∙ by_letter other
+named_once words one other is is_too = sym (by_words one is.1) ∙ ap (λ w. command_by (letter w) (number_in w)) (sym is.0 ∙ is_too.0) ∙ by_words other is_too.1
 
 plain_of : Command → PlainCommand
 plain_of (Session command) = Dump
@@ -37,9 +51,9 @@ pub plain_once : (words : List (List ℕ)) (one other : PlainCommand) → Names 
 unfolding plain_of
 plain_once words one other is is_too = ap plain_of {x = Plain one} {y = Plain other} (named_once words (Plain one) (Plain other) is is_too)
 
--- there is one command of sessions
-pub session_once : (words : List (List ℕ)) (command : SessionCommand) → Names words (Session command) → Names words (Session Step)
-session_once words Step is = is
+-- a command of sessions is a `step`
+pub is_step : (words : List (List ℕ)) (command : SessionCommand) → Names words (Session command) → ((number : Option ℕ) → Names words (Session (Step number)) → ⊥) → ⊥
+is_step words (Step number) is none = none number is
 
 differ : (one : SessionCommand) (other : PlainCommand) → Session one ≡ Plain other → ⊥
 differ one other e = cc

@@ -1,14 +1,19 @@
--- What the bytes that were read come to is what the call says.
-use Rattle.std.proofs.Common.{ℕ, ◌≤◌, List, length, Option, Some, None, ap, ◌∙◌, length-take, arith}
+-- What the bytes that were read come to is what the call says, and so is what a number's script does.
+use Rattle.std.proofs.Common.{ℕ, ◌≤◌, List, [], length, Option, Some, None, refl, ap, ◌∙◌, length-take, arith}
 use Rattle.std.proofs.lemmas.List.{take_all, drop_all}
-use Rattle.mp_outside.specs.Sources.{ReadsUpTo}
+use Rattle.mp_outside.specs.Sources.{ReadsUpTo, TakesUpTo}
 use Rattle.mp_outside.specs.declared.disks.Disk.{Ghosts}
 use Rattle.mp_files.specs.declared.disks.Disks.{Disks}
 use Rattle.mp_app.specs.declared.status.Status.{Status}
 use Rattle.mp_app.specs.declared.status.Status.TheVariants.{Done, Usage, Script as BadScript, Store, Stopped, Source, Sink, Disk, Memory}
 use Rattle.mp_app.specs.Calls.{SourceUse, ReadToItsEnd, ReadUpToTheBound}
-use Rattle.mp_app.specs.Answered.{BytesSay}
-use Rattle.mp_app.specs.Outcomes.{StepSays}
+use Rattle.mp_script.specs.declared.statements.Script.{Script}
+use Rattle.mp_script.specs.Spelling.{Spells}
+use Rattle.mp_app.specs.declared.output.Output.{Output}
+use Rattle.mp_app.specs.Answered.{BytesSay, ScriptSays}
+use Rattle.mp_app.specs.Outcomes.{ReadsScript, IsItsScript, StepSays}
+use Rattle.mp_app.specs.Printed.{text_of, Prints}
+use Rattle.mp_app.specs.Texts.{no_memory_text}
 
 -- fewer bytes than were asked for are all
 pub all_read : (left still_left : Option (List ℕ)) (bytes : List ℕ) → ReadsUpTo 1048577 left still_left bytes → length bytes ≤ 1048576 → ReadToItsEnd left still_left bytes
@@ -24,29 +29,51 @@ bound_read None still_left bytes reads = tt
 bound_read (Some input) None bytes reads = absurd reads
 bound_read (Some input) (Some rest) bytes reads = reads.0
 
+-- what isn't read is left
+pub nothing_taken : (left : Option (List ℕ)) → TakesUpTo 1048577 left left
+nothing_taken None = ([], omega arith, tt)
+nothing_taken (Some input) = ([], omega arith, refl)
+
 module _ {D : Type 0} (g : Ghosts D) where
+  -- what a script comes to is said of the command whose script it is
+  pub says_of_script : (source : SourceUse) (number : Option ℕ) (script : Script) (old new : Disks D) (status : Status) (text : List ℕ) → IsItsScript number source script
+      → ScriptSays g number script old new status text → StepSays g number source old new status text
+  says_of_script source number script old new Done text its says = record { script = script; its = its; began = says.0; answered = says.1 }
+  says_of_script source number script old new Usage text its says = absurd says
+  says_of_script source number script old new BadScript text its says = absurd says
+  says_of_script source number script old new Store text its says = record {
+    script = script;
+    its = its;
+    refusal = says.0;
+    content = says.1;
+    first = says.2;
+    kept = says.3;
+    printed = says.4;
+  }
+  says_of_script source number script old new Stopped text its says = record { script = script; its = its; began = says.0; answered = says.1 }
+  says_of_script source number script old new Source text its says = absurd says
+  says_of_script source number script old new Sink text its says = absurd says
+  says_of_script source number script old new Disk text its says = says
+  says_of_script source number script old new Memory text its says = says
+
+  -- the bytes were read to the source's end
+  its_bytes : (source : SourceUse) (bytes : List ℕ) (script : Script) → ReadsUpTo 1048577 source.left source.still_left bytes → Spells bytes script → ReadsScript source script
+  its_bytes source bytes script reads spelled = record { bytes = bytes; read = all_read source.left source.still_left bytes reads spelled.size; spelled = spelled }
+
   -- the status and the text go with the source
   pub says_from_bytes : (source : SourceUse) (bytes : List ℕ) (old new : Disks D) (status : Status) (text : List ℕ) → ReadsUpTo 1048577 source.left source.still_left bytes
-      → BytesSay g bytes old new status text → StepSays g source old new status text
-  says_from_bytes source bytes old new Done text reads says = record {
-    script = says.0;
-    reads = record { bytes = bytes; read = all_read source.left source.still_left bytes reads says.1.size; spelled = says.1 };
-    began = says.2.0;
-    answered = says.2.1;
-  }
+      → BytesSay g bytes old new status text → StepSays g None source old new status text
+  says_from_bytes source bytes old new Done text reads says = says_of_script source None says.0 old new Done text (its_bytes source bytes says.0 reads says.1) says.2
   says_from_bytes source bytes old new Usage text reads says = absurd says.2
   says_from_bytes source bytes old new BadScript text reads says = record { bytes = bytes; read = bound_read source.left source.still_left bytes reads; refused = says }
-  says_from_bytes source bytes old new Store text reads says = record {
-    script = says.0;
-    reads = record { bytes = bytes; read = all_read source.left source.still_left bytes reads says.1.size; spelled = says.1 };
-    refusal = says.2.0;
-    content = says.2.1;
-    first = says.2.2;
-    kept = says.2.3;
-    printed = says.2.4;
-  }
-  says_from_bytes source bytes old new Stopped text reads says = absurd says.2
+  says_from_bytes source bytes old new Store text reads says = says_of_script source None says.0 old new Store text (its_bytes source bytes says.0 reads says.1) says.2
+  says_from_bytes source bytes old new Stopped text reads says = says_of_script source None says.0 old new Stopped text (its_bytes source bytes says.0 reads says.1) says.2
   says_from_bytes source bytes old new Source text reads says = absurd says.2
   says_from_bytes source bytes old new Sink text reads says = absurd says.2
   says_from_bytes source bytes old new Disk text reads says = says.2
   says_from_bytes source bytes old new Memory text reads says = says
+
+  -- there was no memory
+  pub says_no_memory : (source : SourceUse) (number : Option ℕ) (disks : Disks D) (output : Output) → Prints Memory no_memory_text output
+      → StepSays g number source disks disks output.status (text_of output.printed)
+  says_no_memory source number disks output prints = rw prints.0 prints.1

@@ -8,7 +8,7 @@ use Rattle.mp_commands.specs.Fresh.{Made}
 use Rattle.mp_app.specs.declared.commands.Command.{Command}
 use Rattle.mp_app.specs.declared.commands.Command.TheVariants.{Session, Plain}
 use Rattle.mp_app.specs.declared.commands.PlainCommand.{PlainCommand}
-use Rattle.mp_app.specs.declared.commands.PlainCommand.TheVariants.{Init, Recover, Dump, Logs}
+use Rattle.mp_app.specs.declared.commands.PlainCommand.TheVariants.{Init, Recover, Dump, Logs, Gen}
 use Rattle.mp_app.specs.declared.commands.SessionCommand.{SessionCommand}
 use Rattle.mp_app.specs.declared.commands.SessionCommand.TheVariants.{Step}
 use Rattle.mp_app.specs.declared.commands.WordsRefusal.{WordsRefusal}
@@ -18,7 +18,7 @@ use Rattle.mp_app.specs.declared.status.Status.{Status}
 use Rattle.mp_app.specs.declared.status.Status.TheVariants.{Done, Usage as UsageStatus, Store, Sink, Memory as NoMemory}
 use Rattle.mp_app.specs.Calls.{SourceUse}
 use Rattle.mp_app.specs.Commands.{Names, ReadsWords}
-use Rattle.mp_app.specs.Outcomes.{StepSays, InitSays, Recovers, RecoverSays, CommandSays, Says, WritesFront}
+use Rattle.mp_app.specs.Outcomes.{StepSays, InitSays, Recovers, RecoverSays, CommandSays, Says, Writes, WritesFront}
 use Rattle.mp_app.specs.Printed.{text_of, PrintsWordsRefusal}
 use Rattle.mp_app.specs.Texts.{no_memory_text}
 
@@ -40,26 +40,28 @@ store_no_sink status store sink = differ (sym store ∙ sink)
     differ e = cc
 
 module _ {D : Type 0} (g : Ghosts D) where
-  pub session_said : (command : SessionCommand) (source : SourceUse) (old new : Disks D) (status : Status) (text : List ℕ)
-      → StepSays g source old new status text → CommandSays g (Session command) source old new status text
-  session_said Step source old new status text says = says
-
   -- where what the disks hold is refused for a run, they are as they were
-  pub step_kept : (source : SourceUse) (old new : Disks D) (status : Status) (text : List ℕ) → StepSays g source old new status text → status ≡ Store → KeptNine g old new
-  step_kept source old new status text says is =
-      let at_store : StepSays g source old new Store text = subst (λ s. StepSays g source old new s text) is says in
+  pub step_kept : (command : SessionCommand) (source : SourceUse) (old new : Disks D) (status : Status) (text : List ℕ)
+      → CommandSays g (Session command) source old new status text → status ≡ Store → KeptNine g old new
+  step_kept (Step number) source old new status text says is =
+      let at_store : StepSays g number source old new Store text = subst (λ s. StepSays g number source old new s text) is says in
       at_store.kept
 
   pub front_said : (words : List (List ℕ)) (source : SourceUse) (old new : Disks D) (command : Command) (before after : Option (List ℕ))
       → Names words command → WritesFront (CommandSays g command source old new) before after → WritesFront (Says g words source old new) before after
   front_said words source old new command before after names front = record { status = front.status; text = front.text; said = inr (command, names, front.said); written = front.written }
 
+  pub whole_said : (words : List (List ℕ)) (source : SourceUse) (old new : Disks D) (command : Command) (status : Status) (before after : Option (List ℕ))
+      → Names words command → Writes (CommandSays g command source old new) status before after → Writes (Says g words source old new) status before after
+  whole_said words source old new command status before after names whole = record { text = whole.text; said = inr (command, names, whole.said); written = whole.written }
+
   memory_said : (command : Command) (source : SourceUse) (disks : Disks D) (text : List ℕ) → text ≡ no_memory_text → CommandSays g command source disks disks NoMemory text
-  memory_said (Session Step) source disks text is = is
+  memory_said (Session (Step number)) source disks text is = is
   memory_said (Plain Init) source disks text is = is
   memory_said (Plain Recover) source disks text is = record { stands = inl (KeptNine-refl g disks); printed = is }
   memory_said (Plain Dump) source disks text is = is
   memory_said (Plain Logs) source disks text is = is
+  memory_said (Plain (Gen number)) source disks text is = is
 
   pub refusal_said : (words : List (List ℕ)) (source : SourceUse) (disks : Disks D) (refusal : WordsRefusal) (output : Output)
       → ReadsWords words (Err refusal) → PrintsWordsRefusal refusal output → Says g words source disks disks output.status (text_of output.printed)
@@ -68,11 +70,12 @@ module _ {D : Type 0} (g : Ghosts D) where
 
   -- no command ends with the sink's status before its text is written
   sink_said : (command : Command) (source : SourceUse) (old new : Disks D) (text : List ℕ) → CommandSays g command source old new Sink text → ⊥
-  sink_said (Session Step) source old new text says = says
+  sink_said (Session (Step number)) source old new text says = says
   sink_said (Plain Init) source old new text says = says
   sink_said (Plain Recover) source old new text says = says
   sink_said (Plain Dump) source old new text says = says
   sink_said (Plain Logs) source old new text says = says
+  sink_said (Plain (Gen number)) source old new text says = says
 
   pub never_sink : (command : Command) (source : SourceUse) (old new : Disks D) (status : Status) (text : List ℕ)
       → CommandSays g command source old new status text → status ≡ Sink → ⊥
@@ -99,6 +102,7 @@ module _ {D : Type 0} (g : Ghosts D) where
   refused_said Recover source old new text says others = says.kept
   refused_said Dump source old new text says others = others (λ is. absurd cc) (λ is. absurd cc)
   refused_said Logs source old new text says others = others (λ is. absurd cc) (λ is. absurd cc)
+  refused_said (Gen number) source old new text says others = absurd says
 
   pub kept_said : (command : PlainCommand) (source : SourceUse) (old new : Disks D) (status : Status) (text : List ℕ)
       → CommandSays g (Plain command) source old new status text → (command ≢ Init → command ≢ Recover → KeptNine g old new) → status ≡ Store → KeptNine g old new

@@ -1,23 +1,31 @@
 -- The commands, and the words that name them.
-use Rattle.std.specs.Prelude.{◌≡◌, ℕ, List, [], ◌∷◌, codes, Result, Ok, Err}
+use Rattle.std.specs.Prelude.{◌≡◌, ◌<◌, ◌^◌, ℕ, List, [], ◌∷◌, codes, decimal, Some, None, Result, Ok, Err}
 use Rattle.mp_app.specs.declared.commands.Command.{Command}
 use Rattle.mp_app.specs.declared.commands.Command.TheVariants.{Session, Plain}
-use Rattle.mp_app.specs.declared.commands.PlainCommand.TheVariants.{Init, Recover, Dump, Logs}
+use Rattle.mp_app.specs.declared.commands.PlainCommand.TheVariants.{Init, Recover, Dump, Logs, Gen}
 use Rattle.mp_app.specs.declared.commands.SessionCommand.TheVariants.{Step}
 use Rattle.mp_app.specs.declared.commands.WordsRefusal.{WordsRefusal}
 use Rattle.mp_app.specs.declared.commands.WordsRefusal.TheVariants.{Usage, Memory}
 
 -- the words of a command, which may be several
 abbrev pub words_of : Command → List (List ℕ)
-words_of (Session Step) = codes "step" ∷ []
+words_of (Session (Step None)) = codes "step" ∷ []
+words_of (Session (Step (Some number))) = codes "step" ∷ decimal number ∷ []
 words_of (Plain Init) = codes "init" ∷ []
 words_of (Plain Recover) = codes "recover" ∷ []
 words_of (Plain Dump) = codes "dump" ∷ []
 words_of (Plain Logs) = codes "logs" ∷ []
+words_of (Plain (Gen number)) = codes "gen" ∷ decimal number ∷ []
 
--- the words name this command
+-- a number is 0 to 2^64 - 1
+abbrev pub HasItsNumber : Command → Type 0
+HasItsNumber (Session (Step (Some number))) = number < 2 ^ 64
+HasItsNumber (Plain (Gen number)) = number < 2 ^ 64
+HasItsNumber command = Unit {0}
+
+-- the words name this command: they are its own, and a number stands there as its decimal text
 abbrev pub Names : List (List ℕ) → Command → Type 0
-Names words command = words ≡ words_of command
+Names words command = (words ≡ words_of command) × HasItsNumber command
 
 -- the words name none
 abbrev pub NoCommand : List (List ℕ) → Type 0

@@ -10,10 +10,11 @@ use Rattle.mp_script.specs.declared.statements.Script.{Script}
 use Rattle.mp_opening.specs.Openings.{MayBegin}
 use Rattle.mp_cluster.specs.Runs.{transactions_of}
 use Rattle.mp_script.specs.Spelling.{Spells}
+use Rattle.mp_generate.specs.Generated.{IsGenerated}
 use Rattle.mp_store.specs.StoreFiles.{store_fault}
 use Rattle.mp_app.specs.declared.commands.Command.{Command}
 use Rattle.mp_app.specs.declared.commands.Command.TheVariants.{Session, Plain}
-use Rattle.mp_app.specs.declared.commands.PlainCommand.TheVariants.{Init, Recover, Dump, Logs}
+use Rattle.mp_app.specs.declared.commands.PlainCommand.TheVariants.{Init, Recover, Dump, Logs, Gen}
 use Rattle.mp_app.specs.declared.commands.SessionCommand.TheVariants.{Step}
 use Rattle.mp_app.specs.Calls.{SourceUse}
 
@@ -41,11 +42,18 @@ module _ {D : Type 0} (g : Ghosts D) where
     pub disks_told : AllTell g disks
     pub begins : MayBegin (as_read g disks) (transactions_of script)
 
-  -- what a command reads is of its grammar; `init` reads nothing
+  -- the script of a number may begin over nine disks that tell
+  pub record MayStepNumber (number : ℕ) (disks : Disks D) : Type 0 where
+    pub disks_told : AllTell g disks
+    pub begins : (script : Script) → IsGenerated number script → MayBegin (as_read g disks) (transactions_of script)
+
+  -- what a command reads is of its grammar; `init` and `gen` read nothing
   abbrev pub IsInOrder : Command → SourceUse → Disks D → Type 0
-  IsInOrder (Session Step) source disks = MayStep source.left disks
+  IsInOrder (Session (Step None)) source disks = MayStep source.left disks
+  IsInOrder (Session (Step (Some number))) source disks = MayStepNumber number disks
   IsInOrder (Plain Init) source disks = Unit {0}
   IsInOrder (Plain Recover) source disks = MayRecover disks
   IsInOrder (Plain Dump) source disks = IsTrue (g.tells disks.store) × (store_fault (g.seen disks.store) ≡ None)
+  IsInOrder (Plain (Gen number)) source disks = Unit {0}
   IsInOrder (Plain Logs) source disks = EachTells g disks.logs.items
       × (fault_below (seen_at g disks.logs.items) (length disks.logs.items) ≡ None)

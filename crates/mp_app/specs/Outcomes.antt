@@ -1,6 +1,7 @@
 -- What each status means: when it comes, and which text goes with it.
-use Rattle.std.specs.Prelude.{◌≡◌, ◌⊎◌, ℕ, List, [], Option, Some, None, IsTrue, length}
+use Rattle.std.specs.Prelude.{◌≡◌, ◌≢◌, ◌⊎◌, ℕ, List, [], Option, Some, None, IsTrue, length}
 use Rattle.std.specs.Io.KnownBytes.{Appends}
+use Rattle.mp_model.specs.declared.transcripts.Down.{Down}
 use Rattle.mp_model.specs.declared.transcripts.Mode.{Mode}
 use Rattle.mp_model.specs.declared.transcripts.Mode.TheVariants as mode
 use Rattle.mp_model.specs.declared.transcripts.Transcript.{Transcript}
@@ -15,11 +16,14 @@ use Rattle.mp_script.specs.declared.statements.Script.{Script}
 use Rattle.mp_opening.specs.declared.refusals.ClusterRefusal.{ClusterRefusal}
 use Rattle.mp_opening.specs.declared.refusals.ClusterRefusal.TheVariants as cluster
 use Rattle.mp_opening.specs.Openings.{MayBegin, RefusesRun}
-use Rattle.mp_cluster.specs.Runs.{IsLegalRun, transactions_of}
+use Rattle.mp_cluster.specs.Runs.{DownsHaveFailed, IsLegalRun, IsLeftOfRun, transactions_of}
 use Rattle.mp_script.specs.Faults.{FaultAt, script_fault}
 use Rattle.mp_script.specs.Spelling.{Spells}
+use Rattle.mp_script.specs.Text.{script_text}
+use Rattle.mp_generate.specs.Generated.{IsGenerated}
+use Rattle.mp_summary.specs.Summaries.{summary_text}
 use Rattle.mp_app.specs.declared.status.Status.{Status}
-use Rattle.mp_app.specs.declared.status.Status.TheVariants.{Done, Usage, Script as BadScript, Store, Source, Disk, Memory}
+use Rattle.mp_app.specs.declared.status.Status.TheVariants.{Done, Usage, Script as BadScript, Store, Stopped, Source, Disk, Memory}
 use Rattle.mp_commands.specs.Dumps.{dump_text}
 use Rattle.mp_commands.specs.Fresh.{Made, Explains}
 use Rattle.mp_commands.specs.LogTexts.{LogFault, logs_text, fault_below, IsFirstFault, IsFirstFailed}
@@ -33,18 +37,35 @@ use Rattle.mp_recover.specs.Recovering.{AnswersFor, RefusesBy, IsRecovered}
 use Rattle.mp_store.specs.StoreFiles.{store_fault}
 use Rattle.mp_app.specs.declared.commands.Command.{Command}
 use Rattle.mp_app.specs.declared.commands.Command.TheVariants.{Session, Plain}
-use Rattle.mp_app.specs.declared.commands.PlainCommand.TheVariants.{Init, Recover, Dump, Logs}
+use Rattle.mp_app.specs.declared.commands.PlainCommand.TheVariants.{Init, Recover, Dump, Logs, Gen}
 use Rattle.mp_app.specs.declared.commands.SessionCommand.TheVariants.{Step}
 use Rattle.mp_app.specs.Calls.{SourceUse, ReadToItsEnd, ReadUpToTheBound}
 use Rattle.mp_app.specs.Commands.{Names, NoCommand}
 use Rattle.mp_app.specs.Recoveries.{recovered_text}
 use Rattle.mp_app.specs.Texts.{usage_text, script_fault_text, run_refused_text, source_fault_text, store_refused_text, store_failed_text, log_failed_text, log_refused_text, disk_failed_text, recovery_refused_text, ready_text, no_memory_text}
 
+-- no primary went down in a run, or some did
+abbrev pub NoneIsDown : List Down → Type 0
+NoneIsDown downs = downs ≡ []
+
+abbrev pub SomeIsDown : List Down → Type 0
+SomeIsDown downs = downs ≢ []
+
 -- the source was read to its end, and the bytes read spell the script
 pub record ReadsScript (source : SourceUse) (script : Script) : Type 0 where
   pub bytes : List ℕ
   pub read : ReadToItsEnd source.left source.still_left bytes
   pub spelled : Spells bytes script
+
+-- a run's script is the one that was read, or that of a number
+abbrev pub IsItsScript : Option ℕ → SourceUse → Script → Type 0
+IsItsScript None source script = ReadsScript source script
+IsItsScript (Some number) source script = IsGenerated number script
+
+-- what is printed of a run is its transcript, or the summary where a number is its script's
+abbrev pub run_text : Option ℕ → Script → Transcript → List ℕ
+run_text None script transcript = transcript_text transcript
+run_text (Some number) script transcript = summary_text number script transcript
 
 -- the bytes have this first fault
 pub record HasFault (bytes text : List ℕ) : Type 0 where
@@ -57,6 +78,15 @@ pub record RefusesItsScript (source : SourceUse) (text : List ℕ) : Type 0 wher
   pub bytes : List ℕ
   pub read : ReadUpToTheBound source.left bytes
   pub refused : HasFault bytes text
+
+-- only a script that is read can be refused, and only its source can fail
+abbrev pub RefusesAScript : Option ℕ → SourceUse → List ℕ → Type 0
+RefusesAScript None source text = RefusesItsScript source text
+RefusesAScript (Some number) source text = ⊥
+
+abbrev pub FailsToRead : Option ℕ → SourceUse → List ℕ → Type 0
+FailsToRead None source text = Rose source.faults source.faults_after × (text ≡ source_fault_text)
+FailsToRead (Some number) source text = ⊥
 
 -- a refusal of a run for what the disks hold, and not for a disk that failed or for want of memory
 abbrev pub IsOfHeld : ClusterRefusal → Type 0
@@ -71,6 +101,19 @@ IsOfContent recover.StoreDisk = ⊥
 IsOfContent (recover.LogDisk primary) = ⊥
 IsOfContent recover.Memory = ⊥
 IsOfContent refusal = Unit {0}
+
+-- the text is that of the number's script, and spells it
+pub record ShowsGenerated (number : ℕ) (text : List ℕ) : Type 0 where
+  pub script : Script
+  pub generated : IsGenerated number script
+  pub spelled : Spells text script
+  pub printed : text ≡ script_text script
+
+-- when `gen` ends with a status, and its text
+abbrev pub GenSays : ℕ → Status → List ℕ → Type 0
+GenSays number Done text = ShowsGenerated number text
+GenSays number Memory text = text ≡ no_memory_text
+GenSays number _ text = ⊥
 
 module _ {D : Type 0} (g : Ghosts D) where
   -- the text is that of the store, which is of the grammar; of a disk that doesn't tell its bytes nothing is said
@@ -175,49 +218,63 @@ module _ {D : Type 0} (g : Ghosts D) where
   LogsSays old new Memory text = text ≡ no_memory_text
   LogsSays old new _ text = ⊥
 
-  -- the text is that of a readable transcript of a mode, legal for the script over what the disks held, with no primary down
-  pub record PrintsLegal (in_mode : Mode) (disks : Disks D) (script : Script) (text : List ℕ) : Type 0 where
-    pub transcript : Transcript
+  -- THE TRANSCRIPT OF A RUN is readable, of a mode, and legal for the script over what the disks held; its `down` lines are
+  -- so, and the logs of those that they name failed; and what a crash may now leave is sound, and closed for the transcript
+  pub record IsRunOf (in_mode : Mode) (AreSo : List Down → Type 0) (old new : Disks D) (script : Script) (transcript : Transcript) : Type 0 where
     pub mode : transcript.mode ≡ in_mode
-    pub up : transcript.downs.items ≡ []
-    pub legal : IsLegalRun g disks script transcript
+    pub downs : AreSo transcript.downs.items
+    pub failed : DownsHaveFailed g old new transcript
+    pub legal : IsLegalRun g old script transcript
     pub readable : IsReadable transcript
-    pub printed : text ≡ transcript_text transcript
+    pub left : AllTell g old → Every g new (IsLeftOfRun (as_read g old) script transcript)
 
-  -- the source was read to its end, the bytes read spell a script that may begin over what the disks held, and it is answered
-  pub record AnswersItsScript (source : SourceUse) (disks : Disks D) (text : List ℕ) : Type 0 where
+  -- the text is that of such a run
+  pub record PrintsLegal (number : Option ℕ) (in_mode : Mode) (AreSo : List Down → Type 0) (old new : Disks D) (script : Script) (text : List ℕ) : Type 0 where
+    pub transcript : Transcript
+    pub run : IsRunOf in_mode AreSo old new script transcript
+    pub printed : text ≡ run_text number script transcript
+
+  -- the script that was read to the source's end, or that of the number, may begin over what the disks held, and it is answered
+  pub record AnswersItsScript (number : Option ℕ) (AreSo : List Down → Type 0) (source : SourceUse) (old new : Disks D) (text : List ℕ) : Type 0 where
     pub script : Script
-    pub reads : ReadsScript source script
-    pub began : AllTell g disks → MayBegin (as_read g disks) (transactions_of script)
-    pub answered : PrintsLegal mode.Step disks script text
+    pub its : IsItsScript number source script
+    pub began : AllTell g old → MayBegin (as_read g old) (transactions_of script)
+    pub answered : PrintsLegal number mode.Step AreSo old new script text
 
   -- what the disks hold is refused for a script's run for what is printed, which comes first, and they are left as they were
-  pub record RefusesTheRun (source : SourceUse) (old new : Disks D) (text : List ℕ) : Type 0 where
+  pub record RefusesTheRun (number : Option ℕ) (source : SourceUse) (old new : Disks D) (text : List ℕ) : Type 0 where
     pub script : Script
-    pub reads : ReadsScript source script
+    pub its : IsItsScript number source script
     pub refusal : ClusterRefusal
     pub content : IsOfHeld refusal
     pub first : AllTell g old → RefusesRun (as_read g old) (transactions_of script) refusal
     pub kept : KeptNine g old new
     pub printed : text ≡ run_refused_text refusal
 
-  -- when `step` ends with a status, and its text; with no other status it ends
-  abbrev pub StepSays : SourceUse → Disks D → Disks D → Status → List ℕ → Type 0
-  StepSays source old new Done text = AnswersItsScript source old text
-  StepSays source old new BadScript text = RefusesItsScript source text
-  StepSays source old new Store text = RefusesTheRun source old new text
-  StepSays source old new Source text = Rose source.faults source.faults_after × (text ≡ source_fault_text)
-  StepSays source old new Disk text = NamesFailed old new text
-  StepSays source old new Memory text = text ≡ no_memory_text
-  StepSays source old new _ text = ⊥
+  -- a disk failed while the nine were opened, and it is the one that is printed; they are left as they were
+  pub record FailsToOpen (old new : Disks D) (text : List ℕ) : Type 0 where
+    pub names : NamesFailed old new text
+    pub kept : KeptNine g old new
+
+  -- when `step`, with a number or without, ends with a status, and its text; with no other status it ends
+  abbrev pub StepSays : Option ℕ → SourceUse → Disks D → Disks D → Status → List ℕ → Type 0
+  StepSays number source old new Done text = AnswersItsScript number NoneIsDown source old new text
+  StepSays number source old new Stopped text = AnswersItsScript number SomeIsDown source old new text
+  StepSays number source old new BadScript text = RefusesAScript number source text
+  StepSays number source old new Store text = RefusesTheRun number source old new text
+  StepSays number source old new Source text = FailsToRead number source text
+  StepSays number source old new Disk text = FailsToOpen old new text
+  StepSays number source old new Memory text = text ≡ no_memory_text
+  StepSays number source old new _ text = ⊥
 
   -- when a command ends with a status, and its text
   abbrev pub CommandSays : Command → SourceUse → Disks D → Disks D → Status → List ℕ → Type 0
-  CommandSays (Session Step) source old new = StepSays source old new
+  CommandSays (Session (Step number)) source old new = StepSays number source old new
   CommandSays (Plain Init) source old new = InitSays old new
   CommandSays (Plain Recover) source old new = RecoverSays old new
   CommandSays (Plain Dump) source old new = DumpSays old.store new.store
   CommandSays (Plain Logs) source old new = LogsSays old.logs.items new.logs.items
+  CommandSays (Plain (Gen number)) source old new = GenSays number
 
   -- words that name no command end with the usage text, others as their command says
   abbrev pub Says : List (List ℕ) → SourceUse → Disks D → Disks D → Status → List ℕ → Type 0

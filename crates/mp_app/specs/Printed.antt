@@ -1,5 +1,6 @@
 -- What the functions behind the call print: a status with its text.
-use Rattle.std.specs.Prelude.{◌≡◌, ◌⊎◌, ℕ, List}
+use Rattle.std.specs.Prelude.{◌≡◌, ◌⊎◌, ℕ, List, [], ◌∷◌}
+use Rattle.mp_model.specs.declared.transcripts.Down.{Down}
 use Rattle.mp_model.specs.declared.transcripts.Transcript.{Transcript}
 use Rattle.mp_script.specs.Faults.{FaultAt}
 use Rattle.mp_commands.specs.declared.faults.DiskFault.{DiskFault}
@@ -16,8 +17,7 @@ use Rattle.mp_app.specs.declared.commands.WordsRefusal.{WordsRefusal}
 use Rattle.mp_app.specs.declared.commands.WordsRefusal.TheVariants.{Usage as NotRead, Memory as NoMemory}
 use Rattle.mp_app.specs.declared.output.Output.{Output}
 use Rattle.mp_app.specs.declared.status.Status.{Status}
-use Rattle.mp_app.specs.declared.status.Status.TheVariants.{Done, Usage, Script, Store, Disk, Memory}
-use Rattle.mp_report.specs.Transcripts.{transcript_text}
+use Rattle.mp_app.specs.declared.status.Status.TheVariants.{Done, Usage, Script, Store, Stopped, Disk, Memory}
 use Rattle.mp_app.specs.Recoveries.{recovered_text}
 use Rattle.mp_app.specs.Texts.{usage_text, script_fault_text, store_refused_text, store_failed_text, log_failed_text, log_refused_text, disk_failed_text, recovery_refused_text, run_refused_text, unclean_text, no_memory_text}
 use Rattle.mp_app.specs.declared.output.Printed.{Printed as PrintedText}
@@ -76,9 +76,14 @@ abbrev pub PrintsWordsRefusal : WordsRefusal → Output → Type 0
 PrintsWordsRefusal NotRead = Prints Usage usage_text
 PrintsWordsRefusal NoMemory = Prints Memory no_memory_text
 
--- what a run's transcript is printed as
-abbrev pub PrintsTranscript : Transcript → Output → Type 0
-PrintsTranscript transcript = PrintsOrNoMemory Done (transcript_text transcript)
+-- the status of a run, by the `down` lines of its transcript
+abbrev pub status_of_downs : List Down → Status
+status_of_downs [] = Done
+status_of_downs (down ∷ downs) = Stopped
+
+-- what a run is printed as
+abbrev pub PrintsRun : List ℕ → Transcript → Output → Type 0
+PrintsRun text transcript = PrintsOrNoMemory (status_of_downs transcript.downs.items) text
 
 -- what a refusal of a run is printed as
 abbrev pub PrintsRunRefusal : ClusterRefusal → Output → Type 0

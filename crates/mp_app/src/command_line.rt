@@ -16,7 +16,11 @@ fn parse(alloc: Global, words: &[String]) -> Result<bool, Error> {
     let name = Arg::new(alloc, "command")
         .required(true)
         .action(ArgAction::Set);
-    let command = Command::new(alloc, "mp").no_binary_name(true).arg(name)?;
+    let number = Arg::new(alloc, "number").action(ArgAction::Set);
+    let command = Command::new(alloc, "mp")
+        .no_binary_name(true)
+        .arg(name)?
+        .arg(number)?;
     let matches = command.try_get_matches_from(words)?;
     Ok(matches.contains_id("command"))
 }

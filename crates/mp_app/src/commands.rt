@@ -3,8 +3,8 @@
 /// A command that runs a script's sessions.
 #[derive(Clone, Copy, Debug, PartialEq, Eq)]
 pub enum SessionCommand {
-    /// `step`: reads a script and answers it.
-    Step,
+    /// `step`: reads a script and answers it; `step N`: answers the script of the number N, and prints the summary.
+    Step(Option<u64>),
 }
 
 /// A command that runs no session.
@@ -18,6 +18,8 @@ pub enum PlainCommand {
     Dump,
     /// `logs`: prints the mtrs of the logs.
     Logs,
+    /// `gen N`: prints the script of the number N.
+    Gen(u64),
 }
 
 /// What the words after the program's name ask for.

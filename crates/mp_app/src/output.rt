@@ -217,6 +217,16 @@ impl Output {
         }
     }
 
+    /// The transcript of a run in which a primary went down.
+    pub fn stopped(text: Text) -> Output
+        ensures { Prints Status.Stopped text.items result }
+    {
+        Output {
+            status: Status::Stopped,
+            printed: Printed::Made(text),
+        }
+    }
+
     fn fixed(status: Status, text: &'static [u8]) -> Output
         ensures { Prints status text.now result }
     {

@@ -6,7 +6,7 @@ ghost use Rattle.mp_files.specs.Nine.{KeptDisk, KeptLogs, KeptNine, StillNine};
 ghost use Rattle.mp_commands.specs.Fresh.{Made};
 ghost use Rattle.mp_app.specs.declared.commands.Command.TheVariants.{Plain};
 ghost use Rattle.mp_app.specs.Calls.{SourceUse, read_of};
-ghost use Rattle.mp_app.specs.Outcomes.{CommandSays, InitSays, RecoverSays, Recovers, DumpSays, LogsSays, Writes, WritesFront};
+ghost use Rattle.mp_app.specs.Outcomes.{CommandSays, InitSays, RecoverSays, Recovers, DumpSays, LogsSays, GenSays, Writes, WritesFront};
 ghost use Rattle.mp_app.specs.Printed.{text_of};
 
 use crate::commands::PlainCommand;
@@ -14,8 +14,11 @@ use crate::output::{Output, print};
 use crate::status::Status;
 use mp_commands::{dump, init, print_logs};
 use mp_files::Disks;
+use mp_generate::generate;
+use mp_model::Memory;
 use mp_outside::{Disk, Sink, Source};
 use mp_recover::recover;
+use mp_script::print as print_script;
 use std::alloc::Global;
 
 /// Does a command that runs no session, as `top` does. There are eight logs. No source is read.
@@ -60,6 +63,7 @@ fn answer<D: Disk>(alloc: Global, command: &PlainCommand, disks: &mut Disks<D>) 
         PlainCommand::Recover => answer_recover(alloc, disks),
         PlainCommand::Dump => answer_dump(alloc, &mut disks.store),
         PlainCommand::Logs => answer_logs(alloc, &mut disks.logs),
+        PlainCommand::Gen(number) => answer_gen(alloc, *number),
     }
 }
 
@@ -107,5 +111,18 @@ fn answer_logs<D: Disk>(alloc: Global, logs: &mut Vec<D>) -> Output
     match print_logs(alloc, logs) {
         Ok(text) => Output::done(text),
         Err(refusal) => Output::logs_refusal(alloc, refusal),
+    }
+}
+
+// What the script of a number comes to.
+fn answer_gen(alloc: Global, number: u64) -> Output
+    ensures { GenSays number result.status (text_of result.printed) }
+{
+    match generate(alloc, number) {
+        Ok(script) => match print_script(alloc, &script) {
+            Ok(text) => Output::done(text),
+            Err(Memory) => Output::no_memory(),
+        },
+        Err(Memory) => Output::no_memory(),
     }
 }

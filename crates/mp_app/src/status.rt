@@ -14,7 +14,7 @@ pub enum Status {
     Script,
     /// 3: the store or a log is refused.
     Store,
-    /// 4: a primary went down in the run.
+    /// 4: a primary went down in the run, which went on without it.
     Stopped,
     /// 5: the source failed.
     Source,

@@ -1,6 +1,7 @@
 //! Whole calls of the program: words, scripts and disks, with what they print.
 
 mod log_bytes;
+mod numbers;
 mod recovery;
 mod runs;
 
@@ -224,6 +225,9 @@ fn refusals_print_their_text(rt: HostRuntime) -> Result<(), Fail> {
         ["step", "--fast"].as_slice(),
         &[],
         &["gen", "05"],
+        &["step", "05"],
+        &["gen", "-1"],
+        &["gen", "18446744073709551616"],
         &["help"],
         &["--help"],
         &["dump", "dump"],

@@ -1,11 +1,14 @@
 //! The call that the program makes.
 
-ghost use Rattle.std.specs.Prelude.{◌≡◌, ◌≢◌, ◌⊎◌, length, map, string_bytes};
+ghost use Rattle.std.specs.Prelude.{◌≡◌, ◌≢◌, ◌⊎◌, ◌+◌, ◌≤◌, ℕ, Option, None, Some, length, map, string_bytes};
 ghost use Rattle.std.specs.Io.KnownBytes.{Appends};
 ghost use Rattle.mp_outside.specs.Faults.{Rose};
 ghost use Rattle.mp_outside.specs.Sinks.{AppendsFront};
 ghost use Rattle.mp_outside.specs.Sources.{TakesUpTo};
-ghost use Rattle.mp_files.specs.Nine.{StillNine, KeptDisk, KeptNine};
+ghost use Rattle.mp_model.specs.declared.histories.Opening.{Opening};
+ghost use Rattle.mp_files.specs.Nine.{AllTell, as_read, StillNine, KeptDisk, KeptNine};
+ghost use Rattle.mp_cluster.specs.Runs.{IsOpeningOf};
+ghost use Rattle.mp_summary.specs.Summaries.{summary_line};
 ghost use Rattle.mp_commands.specs.Fresh.{Made};
 ghost use Rattle.mp_app.specs.declared.commands.Command.{Command};
 ghost use Rattle.mp_app.specs.declared.commands.Command.TheVariants.{Session, Plain};
@@ -22,19 +25,28 @@ use crate::status::Status;
 use crate::words::read_words;
 use mp_files::Disks;
 use mp_outside::{Disk, Sink, Source};
+use mp_summary::law_one_summary;
 use std::alloc::Global;
 use std::sync::Wait;
 
 /// Does what the words after the program's name ask for. `step` reads a script from the source to its end, runs its
-/// sessions by its primaries over the store and the logs, and prints the transcript. `init` makes the disks a fresh store
-/// and eight logs without batches, and prints `ready`. `recover` makes the disks clean after a run or a crash, and prints
-/// the rows that are left. `dump` prints the pages of the store, `logs` the mtrs of the logs.
+/// sessions by its primaries over the store and the logs, and prints the transcript. `gen N` prints the script that is made
+/// of the number N, 0 to 2^64 - 1, and `step N` runs that script as `step` one that was read, and prints a line in place of
+/// the transcript, its summary. `init` makes the disks a fresh store and eight logs without batches, and prints `ready`.
+/// `recover` makes the disks clean after a run or a crash, and prints the rows that are left. `dump` prints the pages of the
+/// store, `logs` the mtrs of the logs.
 ///
-/// There are eight logs, before and after. Only `step` reads the source, at most 1,048,577 bytes of it, and it isn't
-/// promised to return. Only `init` and `recover` change the store, and only these and `step` the logs: `step` writes the
-/// mtrs of its run, and needs `recover` or `init` before the next one that may begin. Where `init` ends with another status
-/// than 0, nothing is promised of the content of disks but that they can be initialised again; where `recover` or `step`
-/// ends with 3, they are as they were. The text is made whole before its first byte is written, and it is written once.
+/// In a run a primary goes down where its log's disk fails, and where it needs something of one that is down. The others go
+/// on, the transcript says which went down and with whose log, and the status is 4 instead of 0. Behind both, whatever a
+/// crash leaves of the disks is sound, and the commits that `recover` keeps of it are closed for the transcript: all that it
+/// acknowledges, none that it doesn't answer, and with each one those below it of the keys that it read or wrote.
+///
+/// There are eight logs, before and after. Only `step` without a number reads the source, at most 1,048,577 bytes of it;
+/// `step` isn't promised to return. Only `init` and `recover` change the store, and only these and `step` the logs: `step`
+/// writes the mtrs of its run, and needs `recover` or `init` before the next one that may begin. Where `init` ends with
+/// another status than 0, nothing is promised of the content of disks but that they can be initialised again; where `recover`
+/// ends with 3, or `step` with 3 or 7, they are as they were. The text is made whole before its first byte is written, and it
+/// is written once.
 ///
 /// `docs/language.md` says what each status means and which text goes with it.
 pub fn top<R: Wait, S: Source, K: Sink, D: Disk + Drop>(
@@ -61,9 +73,14 @@ pub fn top<R: Wait, S: Source, K: Sink, D: Disk + Drop>(
         → IsInOrder D.Disk command (read_of S.Source source.old source.new) disks.old
         → (result ≡ Status.Done) ⊎ (result ≡ Status.Memory) }
     ensures bound { TakesUpTo 1048577 (S.left source.old) (S.left source.new) }
-    ensures unread { ¬ Names (map string_bytes words.now) (Session SessionCommand.Step) → source.new ≡ source.old }
+    ensures unread { ¬ Names (map string_bytes words.now) (Session (SessionCommand.Step None)) → source.new ≡ source.old }
     // All nine disks stand and tell what they told, and no count of faults fell.
     ensures nine { StillNine D.Disk disks.old disks.new }
+    // Where `step N` does, over disks that tell and with room for the pages of its run, its line is known.
+    ensures one { (number : ℕ) (opening : Opening) → result ≡ Status.Done
+        → Names (map string_bytes words.now) (Session (SessionCommand.Step (Some number)))
+        → AllTell D.Disk disks.old → IsOpeningOf (as_read D.Disk disks.old) opening → opening.taken + 3760 ≤ 4096
+        → Appends (K.written sink.old) (K.written sink.new) (summary_line number 3008 752 512) }
     // Where `init` ends with status 0, the disks are a fresh store and logs without batches.
     ensures ready { result ≡ Status.Done → Names (map string_bytes words.now) (Plain PlainCommand.Init) → Made D.Disk disks.old disks.new }
     // Where `recover` does, over sound disks, each image is clean and has the kept commits.
@@ -74,10 +91,11 @@ pub fn top<R: Wait, S: Source, K: Sink, D: Disk + Drop>(
     ensures refused { result ≡ Status.Store → KeptNine D.Disk disks.old disks.new }
     ensures untouched { ¬ Names (map string_bytes words.now) (Plain PlainCommand.Init)
         → ¬ Names (map string_bytes words.now) (Plain PlainCommand.Recover)
-        → ¬ Names (map string_bytes words.now) (Session SessionCommand.Step) → KeptNine D.Disk disks.old disks.new }
+        → ((number : Option ℕ) → ¬ Names (map string_bytes words.now) (Session (SessionCommand.Step number))) → KeptNine D.Disk disks.old disks.new }
     ensures store { ¬ Names (map string_bytes words.now) (Plain PlainCommand.Init)
         → ¬ Names (map string_bytes words.now) (Plain PlainCommand.Recover) → KeptDisk D.Disk disks.old.store disks.new.store }
 {
+    law_one_summary();
     call(rt, alloc, words, source, sink, disks)
 }
 
@@ -99,7 +117,7 @@ fn call<R: Wait, S: Source, K: Sink, D: Disk + Drop>(
         (K.written sink.old) (K.written sink.new) }
     ensures sink_failed { result ≡ Status.Sink → Rose (K.faults sink.old) (K.faults sink.new) }
     ensures bound { TakesUpTo 1048577 (S.left source.old) (S.left source.new) }
-    ensures unread { ¬ Names (map string_bytes words.now) (Session SessionCommand.Step) → source.new ≡ source.old }
+    ensures unread { ¬ Names (map string_bytes words.now) (Session (SessionCommand.Step None)) → source.new ≡ source.old }
     ensures nine { StillNine D.Disk disks.old disks.new }
     ensures ready { result ≡ Status.Done → Names (map string_bytes words.now) (Plain PlainCommand.Init) → Made D.Disk disks.old disks.new }
     ensures recovered { result ≡ Status.Done → Names (map string_bytes words.now) (Plain PlainCommand.Recover)
@@ -107,7 +125,7 @@ fn call<R: Wait, S: Source, K: Sink, D: Disk + Drop>(
     ensures refused { result ≡ Status.Store → KeptNine D.Disk disks.old disks.new }
     ensures untouched { ¬ Names (map string_bytes words.now) (Plain PlainCommand.Init)
         → ¬ Names (map string_bytes words.now) (Plain PlainCommand.Recover)
-        → ¬ Names (map string_bytes words.now) (Session SessionCommand.Step) → KeptNine D.Disk disks.old disks.new }
+        → ((number : Option ℕ) → ¬ Names (map string_bytes words.now) (Session (SessionCommand.Step number))) → KeptNine D.Disk disks.old disks.new }
     ensures store { ¬ Names (map string_bytes words.now) (Plain PlainCommand.Init)
         → ¬ Names (map string_bytes words.now) (Plain PlainCommand.Recover) → KeptDisk D.Disk disks.old.store disks.new.store }
 {

@@ -1,5 +1,5 @@
--- Members that have nothing left to do have answered all, over a world that can be reached.
-use Rattle.std.proofs.Common.{◌≡◌, ℕ, ◌+◌, ◌-◌, ◌<◌, ◌≤◌, true, List, [], ◌∷◌, length, map, slice_get, Some, refl, sym, ap, subst, ◌∙◌, arith}
+-- Members that are through have answered all, over a world that can be reached.
+use Rattle.std.proofs.Common.{◌≡◌, ℕ, ◌+◌, ◌-◌, ◌<◌, ◌≤◌, true, List, [], ◌∷◌, length, map, Some, refl, sym, ap, subst, ◌∙◌, arith}
 use Rattle.std.specs.List.{AllByRecursion}
 use Rattle.std.proofs.lemmas.List.{length-map}
 use Rattle.std.proofs.lemmas.Option.{slice_get_within}
@@ -8,12 +8,12 @@ use Rattle.mp_model.specs.declared.histories.Opening.{Opening}
 use Rattle.mp_model.specs.declared.replies.Answer.{Answer}
 use Rattle.mp_model.specs.declared.transcripts.Mode.TheVariants.{Step}
 use Rattle.mp_model.specs.declared.transcripts.Transcript.{Transcript}
-use Rattle.mp_files.proofs.Places.{at_place}
 use Rattle.mp_outside.specs.declared.disks.Disk.{Ghosts}
 use Rattle.mp_script.specs.declared.statements.Script.{Script}
 use Rattle.mp_script.specs.Answers.{ViewsCover}
 use Rattle.mp_script.specs.Below.{EachBelow, answered, stated}
-use Rattle.mp_script.specs.Execution.{is_session_on}
+use Rattle.mp_script.specs.DownLines.{down_lines}
+use Rattle.mp_script.specs.Execution.{execution_of, is_session_on}
 use Rattle.mp_script.specs.Legal.{Legal}
 use Rattle.mp_script.specs.Spelling.{IsSpelled}
 use Rattle.mp_script.proofs.Declared.{on_declared}
@@ -27,7 +27,6 @@ use Rattle.mp_core.specs.Invariant.{NumbersFit}
 use Rattle.mp_core.specs.World.{CoreWorld, core_part}
 use Rattle.mp_facts.specs.Facts.{Facts}
 use Rattle.mp_book.specs.Answered.{IsPlaced}
-use Rattle.mp_book.specs.Through.{have_no_task}
 use Rattle.mp_report.specs.Readable.{IsReadable}
 use Rattle.mp_shared.specs.Nodes.{Run}
 use Rattle.mp_supports.specs.Work.{Work}
@@ -37,11 +36,19 @@ use Rattle.mp_verdict.specs.Orders.{NodeEntry, entries_given, given_by}
 use Rattle.mp_desk.proofs.ReachedFacts.{KnownWorld, known_world}
 use Rattle.mp_primary.proofs.AllAnswered.{all_answered}
 use Rattle.mp_primary.specs.Primaries.{PrimaryView, IsPrimary, PrimaryAgrees}
+use Rattle.mp_primary.specs.Answering.{have_no_line}
 use Rattle.mp_members.specs.declared.members.Members.{Members}
-use Rattle.mp_members.specs.Running.{AreThrough, IsMember, Runs}
+use Rattle.mp_members.specs.Running.{downs_in, AreThrough, IsMember, Runs}
+use Rattle.mp_members.proofs.DownAt.{down_there}
+use Rattle.mp_members.proofs.DownMembers.{member_of, down_by_another}
 use Rattle.mp_lineup.specs.LiningUp.{AreListed, work_over}
 use Rattle.mp_cluster.specs.StepTranscripts.{IsStepOver}
-use Rattle.mp_cluster.proofs.AnsweredRuns.{AnswersAll, answered_legal, answered_readable}
+use Rattle.mp_files.specs.Nine.{Image}
+use Rattle.mp_recover.specs.Closed.{KeptAreClosed}
+use Rattle.mp_recover.specs.Images.{logged_above, SoundImage}
+use Rattle.mp_recover.specs.KeptCommits.{kept_commits}
+use Rattle.mp_cuts.specs.LeftBehind.{IsOpenedOver, IsLeftBehind}
+use Rattle.mp_cluster.proofs.AnsweredRuns.{ClosesLeft, AnswersAll, answered_legal, answered_readable, left_sound, left_closed}
 use Rattle.mp_cluster.proofs.PlacesOfLists.{from_mapped}
 
 -- a session that is on a primary of a spelled script is one of 64
@@ -56,8 +63,8 @@ within_all P [] all = tt
 within_all P (x ∷ given) all = (all.0, within_all P given all.1)
 
 module _ {D : Type 0} where
-  -- a primary that has nothing left to do has answered all statements of its sessions
-  stated_all : (pr : PrimaryView D) → IsPrimary pr → have_no_task pr.book.sessions.items ≡ true → (session : ℕ) → session < 65 → is_session_on pr.work.sessions session pr.number ≡ true
+  -- a primary that has no statement left has answered all statements of its sessions
+  stated_all : (pr : PrimaryView D) → IsPrimary pr → have_no_line pr.book.sessions.items ≡ true → (session : ℕ) → session < 65 → is_session_on pr.work.sessions session pr.number ≡ true
       → answered session pr.book.answers.items ≡ stated session pr.work.lines
   stated_all pr is none session below on = all_answered pr.work.lines pr.work.sessions pr.number pr.book is.book none session below on
 
@@ -65,46 +72,37 @@ module _ {D : Type 0} (g : Ghosts D) (work : Work) (m : Members D) (given : List
   its_opening : m.node.run.opening ≡ m.shared.opening
   its_opening = ap (λ (r : Run). r.opening) runs.run
 
-  -- each primary of the run is a member
-  member_at : (n : ℕ) → IsNode m.shared.opening.trx n → (pr : PrimaryView D) × (slice_get m.primaries.items (n - 1) ≡ Some pr) × IsMember g work m given n pr
-  member_at n node =
-      let low = node.0 in
-      let high = node.1 in
-      let count = runs.count in
-      let at = at_place m.primaries.items (n - 1) (omega (arith, low, high, count)) in
-      let here : n - 1 + 1 ≡ n = omega (arith, low) in
-      (at.0, at.1, subst (λ (k : ℕ). IsMember g work m given k at.0) here (runs.each (n - 1) at.0 at.1))
-
-  -- and agrees with the part that the node has of it
-  agrees_at : (n : ℕ) → IsNode m.shared.opening.trx n → (pr : PrimaryView D) → IsMember g work m given n pr → (q : CorePart) × (part_in m.node.parts n ≡ Some q) × PrimaryAgrees g pr (given_by n given) q
+  -- a member agrees with the part that the node has of it
+  pub agrees_at : (n : ℕ) → IsNode m.shared.opening.trx n → (pr : PrimaryView D) → IsMember g work m given n pr → (q : CorePart) × (part_in m.node.parts n ≡ Some q) × PrimaryAgrees g pr (given_by n given) q
   agrees_at n node pr is =
       let q = runs.holds n (subst (λ (o : CoreOpening). IsNode o.trx n) (sym its_opening) node) in
       (q.0, q.1, is.agrees q.0 (ap (part_in m.node.parts) is.number ∙ q.1))
 
   -- so a world that agrees with the node has its part
-  kept_at : (w : CoreWorld) → ViewAgrees (core_part w) m.node.parts → (n : ℕ) → IsNode m.shared.opening.trx n → Kept work (core_part w n) 0 (given_by n given)
+  kept_at : (w : CoreWorld) → ViewAgrees (core_part w) m.node.parts → (n : ℕ) → IsNode m.shared.opening.trx n → Kept work (core_part w n) (downs_in m n) (given_by n given)
   kept_at w agrees n node =
-      let x = member_at n node in
+      let low = node.0 in
+      let x = member_of g work m given runs n node in
       let q = agrees_at n node x.0 x.2 in
-      subst (λ (p : CorePart). Kept work p 0 (given_by n given)) (sym (agrees n q.0 q.1))
-      (subst (λ (d : ℕ). Kept work q.0 d (given_by n given)) x.2.up
+      subst (λ (p : CorePart). Kept work p (downs_in m n) (given_by n given)) (sym (agrees n q.0 q.1))
+      (subst (λ (d : ℕ). Kept work q.0 d (given_by n given)) (sym (down_there m.primaries.items (n - 1) n x.0 (omega (arith, low)) x.1))
       (subst (λ (k : Work). Kept k q.0 (x.0).down (given_by n given)) x.2.work_is q.2.kept))
 
   placed_at : (n : ℕ) → IsNode m.shared.opening.trx n → EachBelow (IsPlaced work.lines work.sessions n) [] (answers_in (given_by n given))
   placed_at n node =
-      let x = member_at n node in
+      let x = member_of g work m given runs n node in
       subst (EachBelow (IsPlaced work.lines work.sessions n) []) (sym (agrees_at n node x.0 x.2).2.answers)
       (subst (λ (k : ℕ). EachBelow (IsPlaced work.lines work.sessions k) [] (x.0).book.answers.items) x.2.number
       (subst (λ (k : Work). EachBelow (IsPlaced k.lines k.sessions (x.0).number) [] (x.0).book.answers.items) x.2.work_is x.2.stands.primary.book.placed))
 
   stated_at : AreThrough m → (n session : ℕ) → IsNode m.shared.opening.trx n → session < 65 → is_session_on work.sessions session n ≡ true → answered session (answers_in (given_by n given)) ≡ stated session work.lines
   stated_at through n session node below on =
-      let x = member_at n node in
+      let x = member_of g work m given runs n node in
       let here : is_session_on (x.0).work.sessions session (x.0).number ≡ true =
       subst (λ (k : ℕ). is_session_on (x.0).work.sessions session k ≡ true) (sym x.2.number)
       (subst (λ (k : Work). is_session_on k.sessions session n ≡ true) (sym x.2.work_is) on) in
       ap (answered session) (agrees_at n node x.0 x.2).2.answers
-      ∙ stated_all x.0 x.2.stands.primary (through (n - 1) x.0 x.1) session below here
+      ∙ stated_all x.0 x.2.stands.primary (through (n - 1) x.0 x.1).answered session below here
       ∙ ap (λ (k : Work). stated session k.lines) x.2.work_is
 
   -- the lists of the primaries' answers have those that were given
@@ -133,30 +131,44 @@ module _ {D : Type 0} (g : Ghosts D) (work : Work) (m : Members D) (given : List
   known = known_world m.node runs.reached
 
 module _ {D : Type 0} (g : Ghosts D) (script : Script) (base : Base) (m : Members D) (given : List NodeEntry) (runs : Runs g (work_over script base) m given) where
-  pub answers_all : IsSpelled script → AreThrough m → m.shared.opening.trx.primaries ≡ script.primaries → AnswersAll (work_over script base) script m.shared.opening (known g (work_over script base) m given runs).world given
-  answers_all spelled through primaries =
-      let its_known = known g (work_over script base) m given runs in
-      let opening_is = its_opening g (work_over script base) m given runs in
-      record {
-        fit = subst NumbersFit opening_is runs.reached.fair;
-        facts = subst (λ (o : CoreOpening). Facts o its_known.world) opening_is its_known.facts;
-        work_of = record { lines = refl; sessions = refl; base = sym runs.base; primaries = sym primaries; begins = runs.begins };
-        kept = kept_at g (work_over script base) m given runs its_known.world its_known.agrees;
-        in_order = placed_at g (work_over script base) m given runs;
-        none_left = λ n session node on. stated_at g (work_over script base) m given runs through n session node (session_below script spelled session n on) on;
-        answered_all = runs.answered;
-        of_nodes = runs.of_nodes;
-        rising = runs.rising;
-        views = subst (λ (b : Base). ViewsCover Step b.ts (answers_in (entries_given given))) (sym runs.base) runs.views;
-      }
+  abbrev pub its_world : CoreWorld
+  its_world = (known g (work_over script base) m given runs).world
 
-  module _ (spelled : IsSpelled script) (through : AreThrough m) (primaries : m.shared.opening.trx.primaries ≡ script.primaries) (opening : Opening) (opened : BeginsWith m.shared.opening opening)
-      (transcript : Transcript) (t : IsStepOver base.ts (answers_in (entries_given given)) transcript) where
-    over_table : IsStepOver m.shared.opening.trx.base.ts (answers_in (entries_given given)) transcript
-    over_table = subst (λ (b : Base). IsStepOver b.ts (answers_in (entries_given given)) transcript) (sym runs.base) t
+  pub its_facts : Facts m.shared.opening its_world
+  its_facts = subst (λ (o : CoreOpening). Facts o its_world) (its_opening g (work_over script base) m given runs) (known g (work_over script base) m given runs).facts
+
+  pub its_base : base ≡ m.shared.opening.trx.base
+  its_base = sym runs.base
+
+  pub answers_all : IsSpelled script → AreThrough m → m.shared.opening.trx.primaries ≡ script.primaries → AnswersAll (work_over script base) script m.shared.opening its_world (downs_in m) given
+  answers_all spelled through primaries = record {
+    fit = subst NumbersFit (its_opening g (work_over script base) m given runs) runs.reached.fair;
+    facts = its_facts;
+    work_of = record { lines = refl; sessions = refl; base = its_base; primaries = sym primaries; begins = runs.begins };
+    kept = kept_at g (work_over script base) m given runs its_world (known g (work_over script base) m given runs).agrees;
+    in_order = placed_at g (work_over script base) m given runs;
+    none_left = λ n session node on. stated_at g (work_over script base) m given runs through n session node (session_below script spelled session n on) on;
+    cause = down_by_another g (work_over script base) m given runs;
+    answered_all = runs.answered;
+    of_nodes = runs.of_nodes;
+    rising = runs.rising;
+    views = subst (λ (b : Base). ViewsCover Step b.ts (answers_in (entries_given given))) its_base runs.views;
+  }
+
+  module _ (spelled : IsSpelled script) (through : AreThrough m) (primaries : m.shared.opening.trx.primaries ≡ script.primaries) (opening : Opening) (begins : BeginsWith m.shared.opening opening)
+      (transcript : Transcript) (t : IsStepOver base.ts (answers_in (entries_given given)) (down_lines (downs_in m) 1 m.shared.opening.trx.primaries) transcript) where
+    over_table : IsStepOver m.shared.opening.trx.base.ts (answers_in (entries_given given)) (down_lines (downs_in m) 1 m.shared.opening.trx.primaries) transcript
+    over_table = subst (λ (b : Base). IsStepOver b.ts (answers_in (entries_given given)) (down_lines (downs_in m) 1 m.shared.opening.trx.primaries) transcript) its_base t
 
     pub members_legal : Legal script opening transcript
-    members_legal = answered_legal (work_over script base) script m.shared.opening (known g (work_over script base) m given runs).world given spelled (answers_all spelled through primaries) opening opened transcript over_table
+    members_legal = answered_legal (work_over script base) script m.shared.opening its_world (downs_in m) given spelled (answers_all spelled through primaries) opening begins transcript over_table
 
     pub members_readable : IsReadable transcript
-    members_readable = answered_readable (work_over script base) script m.shared.opening (known g (work_over script base) m given runs).world given spelled (answers_all spelled through primaries) opening opened transcript over_table
+    members_readable = answered_readable (work_over script base) script m.shared.opening its_world (downs_in m) given spelled (answers_all spelled through primaries) opening begins transcript over_table
+
+    module _ (opened : List ℕ) (over : IsOpenedOver opened m.shared.opening) (image : Image) (left : IsLeftBehind m.shared.opening its_world opened image) where
+      pub members_sound : SoundImage image
+      members_sound = left_sound (work_over script base) script m.shared.opening its_world (downs_in m) given spelled (answers_all spelled through primaries) opening begins transcript over_table opened over image left
+
+      pub members_closed : ClosesLeft → KeptAreClosed (execution_of script opening transcript) (kept_commits (logged_above image))
+      members_closed closes = left_closed (work_over script base) script m.shared.opening its_world (downs_in m) given spelled (answers_all spelled through primaries) opening begins transcript over_table opened over image left closes

@@ -1,7 +1,9 @@
 pub mod AnsweredRuns
 pub mod CommitCounts
+pub mod DownDisks
 pub mod DrivenMembers
 pub mod EndedMembers
+pub mod LeftLogs
 pub mod PlacesOfLists
 pub mod PresentRows
 pub mod RunsOverDisks

@@ -1,5 +1,5 @@
 -- What stands at the places of lists that were mapped or put together.
-use Rattle.std.proofs.Common.{◌≡◌, ℕ, zero, suc, List, [], ◌∷◌, ◌++◌, length, map, slice_get, option_map, Option, Some, sym, ap, ◌∙◌, arith}
+use Rattle.std.proofs.Common.{◌≡◌, ℕ, ◌≤◌, zero, suc, List, [], ◌∷◌, ◌++◌, length, map, slice_get, option_map, Option, Some, refl, sym, ap, ◌∙◌, arith}
 use Rattle.std.proofs.lemmas.List.{length-map}
 use Rattle.std.proofs.lemmas.Option.{slice_get-map, slice_get_within}
 use Rattle.mp_files.specs.Nine.{At}
@@ -23,6 +23,14 @@ module _ {X : Type 0} where
   front_at [] ys place x at = absurd cc
   front_at (z ∷ xs) ys zero x at = at
   front_at (z ∷ xs) ys (suc place) x at = front_at xs ys place x at
+
+  -- behind fronts of one length stands the same
+  pub behind_at : (xs zs rest : List X) → length xs ≡ length zs → (place : ℕ) → length xs ≤ place → slice_get (xs ++ rest) place ≡ slice_get (zs ++ rest) place
+  behind_at [] [] rest many place past = refl
+  behind_at [] (z ∷ zs) rest many place past = absurd (omega (arith, many))
+  behind_at (x ∷ xs) [] rest many place past = absurd (omega (arith, many))
+  behind_at (x ∷ xs) (z ∷ zs) rest many zero past = absurd (omega (arith, past))
+  behind_at (x ∷ xs) (z ∷ zs) rest many (suc place) past = behind_at xs zs rest (omega (arith, many)) place (omega (arith, past))
 
   -- lists that are related place by place, with the same behind them
   pub both_at : (R : X → X → Type 0) → ((x : X) → R x x) → (xs ys rest : List X) → length ys ≡ length xs → ((place : ℕ) → At R xs ys place) → (place : ℕ) → At R (xs ++ rest) (ys ++ rest) place

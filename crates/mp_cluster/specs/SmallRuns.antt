@@ -1,6 +1,7 @@
 -- Small scripts, openings and transcripts, for examples.
 use Rattle.std.specs.Prelude.{ℕ, ◌+◌, List, [], ◌∷◌}
 use Rattle.mp_model.specs.declared.histories.Opening.{Opening}
+use Rattle.mp_model.specs.declared.replies.Reply.TheVariants.{Committed}
 use Rattle.mp_model.specs.declared.transcripts.Mode.TheVariants.{Step}
 use Rattle.mp_model.specs.declared.transcripts.Transcript.{Transcript}
 use Rattle.mp_script.specs.declared.statements.Line.{Line}
@@ -32,4 +33,20 @@ step_transcript primary commits = record {
   parts = record { items = record { primary = primary; answers = record { items = []; spare = 0 } } ∷ []; spare = 0 };
   downs = record { items = []; spare = 0 };
   commits = commits;
+}
+
+-- the same with one `down` line
+abbrev pub down_transcript : ℕ → ℕ → Transcript
+down_transcript primary by = record (step_transcript 0 0) { downs = record { items = record { primary = primary; by = by } ∷ []; spare = 0 } }
+
+-- the same where the second statement of session 1 acknowledged a commit with this timestamp
+abbrev pub acknowledging_transcript : ℕ → Transcript
+acknowledging_transcript cts = record (step_transcript 0 1) {
+  parts = record {
+    items = record {
+      primary = 0;
+      answers = record { items = record { session = 1; index = 2; reply = Committed cts; waits = record { items = []; spare = 0 } } ∷ []; spare = 0 };
+    } ∷ [];
+    spare = 0;
+  };
 }

@@ -1,8 +1,9 @@
 -- The transcript of a run in mode Step, and what it began from.
-use Rattle.std.specs.Prelude.{◌≡◌, ℕ, List, [], length}
+use Rattle.std.specs.Prelude.{◌≡◌, ℕ, List, length}
 use Rattle.std.specs.List.{flat_map}
 use Rattle.mp_model.specs.declared.histories.Opening.{Opening}
 use Rattle.mp_model.specs.declared.replies.Answer.{Answer}
+use Rattle.mp_model.specs.declared.transcripts.Down.{Down}
 use Rattle.mp_model.specs.declared.transcripts.Mode.TheVariants.{Step}
 use Rattle.mp_model.specs.declared.transcripts.Transcript.{Transcript}
 use Rattle.mp_script.specs.Answers.{IsWholePart}
@@ -21,10 +22,10 @@ first_opening o = record {
   rows = record { items = flat_map (λ row. key_value_of row.key row.value) (rows_in (opening_pages o)); spare = 0 };
 }
 
--- a transcript of mode Step has these answers in its one part, and counts their commits; no primary is down in it
-pub record IsStepOver (base : ℕ) (answers : List Answer) (transcript : Transcript) : Type 0 where
+-- a transcript of mode Step has these answers in its one part, counts their commits, and tells these primaries that are down
+pub record IsStepOver (base : ℕ) (answers : List Answer) (told : List Down) (transcript : Transcript) : Type 0 where
   pub mode : transcript.mode ≡ Step
   pub base_is : transcript.base ≡ base
   pub part : IsWholePart answers transcript.parts.items
-  pub downs : transcript.downs.items ≡ []
+  pub downs : transcript.downs.items ≡ told
   pub commits : transcript.commits ≡ length (numbers answers)

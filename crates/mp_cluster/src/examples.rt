@@ -1,5 +1,5 @@
 //! What the words of a run on one thread mean in small cases, as the contracts of functions that do nothing.
-ghost use Rattle.std.specs.Prelude.{◌≡◌, ◌≢◌, ℕ, ◌+◌, List, [], ◌∷◌, None, Ok, Err};
+ghost use Rattle.std.specs.Prelude.{◌≡◌, ◌≢◌, ◌+◌, false, List, [], ◌∷◌, length, slice_get, None, Some, Ok, Err};
 ghost use Rattle.mp_model.specs.declared.histories.Opening.{Opening};
 ghost use Rattle.mp_model.specs.declared.transcripts.Transcript.{Transcript};
 ghost use Rattle.mp_script.specs.declared.statements.Line.{Line};
@@ -10,13 +10,18 @@ ghost use Rattle.mp_files.specs.declared.disks.Disks.{Disks};
 ghost use Rattle.mp_files.specs.Nine.{Image, AllTell, as_read};
 ghost use Rattle.mp_store.specs.StoreFiles.{header_in_force, store_fault};
 ghost use Rattle.mp_core.specs.declared.opening.CoreOpening.{CoreOpening};
-ghost use Rattle.mp_driver.specs.declared.driving.Halt.TheVariants as halts;
 ghost use Rattle.mp_opening.specs.declared.refusals.ClusterRefusal.TheVariants as cluster;
 ghost use Rattle.mp_opening.specs.Openings.{MayBegin};
-ghost use Rattle.mp_cluster.specs.Runs.{transactions_of, IsOpeningOf, RunFinds, IsLegalRun, RunLeaves};
-ghost use Rattle.mp_cluster.specs.StepRuns.{AreStillThere, StopsFor, stop_of};
+ghost use Rattle.mp_core_trx.specs.declared.opening.Base.{Base};
+ghost use Rattle.mp_files.specs.Nine.{AreImages, EachTells};
+ghost use Rattle.mp_recover.specs.Images.{logged_above, SoundImage, IsOpenedStore};
+ghost use Rattle.mp_cuts.specs.LeftBehind.{IsOpenedOver};
+ghost use Rattle.mp_members.specs.declared.members.Members.{Members};
+ghost use Rattle.mp_members.specs.Running.{downs_in, logs_of};
+ghost use Rattle.mp_cluster.specs.Runs.{transactions_of, DownsHaveFailed, IsOpeningOf, RunFinds, IsLegalRun, IsLeftOfRun, RunLeaves};
+ghost use Rattle.mp_cluster.specs.StepRuns.{AreLinedUp, AreStillThere, DownsRose, HasIdleLogs, IsClosedFor, LeavesClosed, StopsFor};
 ghost use Rattle.mp_cluster.specs.StepTranscripts.{first_opening, IsStepOver};
-ghost use Rattle.mp_cluster.specs.SmallRuns.{script_of, step_transcript, opening_as};
+ghost use Rattle.mp_cluster.specs.SmallRuns.{script_of, step_transcript, down_transcript, acknowledging_transcript, opening_as};
 
 use mp_outside::Disk;
 
@@ -32,7 +37,8 @@ pub fn law_run_examples()
 {}
 
 /// A legal transcript over what the disks hold is a legal run's, and one that begins at another timestamp isn't. A refusal for what
-/// the disks hold leaves them as they are; a store that tells other than before isn't as it was. Want of memory asks nothing.
+/// the disks hold, or for a disk, leaves them as they are; a store that tells other than before isn't as it was. Want of memory
+/// asks nothing.
 pub fn law_legal_run_examples<D: Disk>()
     ensures legal { (disks : Disks D) (script : Script) (opening : Opening) (transcript : Transcript)
         → (AllTell D.Disk disks → IsOpeningOf (as_read D.Disk disks) opening)
@@ -42,21 +48,55 @@ pub fn law_legal_run_examples<D: Disk>()
     ensures left { (disks : Disks D) → RunLeaves D.Disk disks disks cluster.NotClean }
     ensures not_left { (old new : Disks D) → D.Disk.tells new.store ≢ D.Disk.tells old.store → ¬ RunLeaves D.Disk old new cluster.NotClean }
     ensures memory { (old new : Disks D) → RunLeaves D.Disk old new cluster.Memory }
-    ensures log { (old new : Disks D) → RunLeaves D.Disk old new (cluster.LogDisk 1) }
+    ensures log { (old new : Disks D) → D.Disk.tells new.store ≢ D.Disk.tells old.store → ¬ RunLeaves D.Disk old new (cluster.LogDisk 1) }
 {}
 
-/// A table's first opening has its timestamp. A transcript without answers has one part, of primary 0, and no commit. No disk is still
-/// there where there was one. A run doesn't stop for the store, and a halt by a log's disk is refused as one.
-pub fn law_transcript_examples<D: Disk>()
+/// A table's first opening has its timestamp. A transcript without answers has one part, of primary 0, and no commit, and tells
+/// those that are down.
+pub fn law_transcript_examples()
     ensures timestamp { (o : CoreOpening) → (first_opening o).base ≡ o.trx.base.ts }
     ensures no_other { (o : CoreOpening) → (first_opening o).base ≢ o.trx.base.ts + 1 }
-    ensures empty { IsStepOver 7 [] (step_transcript 0 0) }
-    ensures not_primary_1 { ¬ IsStepOver 7 [] (step_transcript 1 0) }
-    ensures not_one_commit { ¬ IsStepOver 7 [] (step_transcript 0 1) }
+    ensures empty { IsStepOver 7 [] [] (step_transcript 0 0) }
+    ensures not_primary_1 { ¬ IsStepOver 7 [] [] (step_transcript 1 0) }
+    ensures not_one_commit { ¬ IsStepOver 7 [] [] (step_transcript 0 1) }
+    ensures down { IsStepOver 7 [] (record { primary = 2; by = 1 } ∷ []) (down_transcript 2 1) }
+    ensures not_untold { ¬ IsStepOver 7 [] (record { primary = 2; by = 1 } ∷ []) (step_transcript 0 0) }
+{}
+
+/// No disk is still there where there was one. A run doesn't stop for a disk. Members aren't lined up where one is down, and logs
+/// aren't idle where there are none; where eight primaries have the eight logs, none is. Over the same disks no primary went down
+/// with another, and primary 0 has no log.
+pub fn law_lined_up_examples<D: Disk>()
     ensures none_there { AreStillThere D.Disk [] [] }
     ensures not_gone { (disk : D) → ¬ AreStillThere D.Disk (disk ∷ []) [] }
-    ensures memory { (old new : List D) → StopsFor D.Disk old new cluster.Memory }
-    ensures not_the_store { (old new : List D) → ¬ StopsFor D.Disk old new cluster.StoreDisk }
-    ensures log { stop_of (halts.LogDisk 3) ≡ cluster.LogDisk 3 }
-    ensures not_store { stop_of (halts.LogDisk 3) ≢ cluster.StoreDisk }
+    ensures memory { StopsFor cluster.Memory }
+    ensures not_a_disk { ¬ StopsFor (cluster.LogDisk 1) }
+    ensures not_down { (script : Script) (base : Base) (m : Members D) → downs_in m 1 ≡ 1 → ¬ AreLinedUp D.Disk script base m }
+    ensures no_logs { (base : Base) (m : Members D) → logs_of m ≡ [] → ¬ HasIdleLogs D.Disk base m }
+    ensures all_at_work { (base : Base) (m : Members D) → length (logs_of m) ≡ 8 → length m.primaries.items ≡ 8
+        → HasIdleLogs D.Disk base m }
+    ensures all_up { (old new : Disks D) → DownsHaveFailed D.Disk old new (step_transcript 0 0) }
+    ensures not_without_a_fault { (disks : Disks D) (disk : D) → slice_get disks.logs.items 0 ≡ Some disk → D.faults disk ≡ 0
+        → ¬ DownsHaveFailed D.Disk disks disks (down_transcript 2 1) }
+    ensures not_with_nobody { (old new : List D) → ¬ DownsRose D.Disk old new (down_transcript 2 0) }
+{}
+
+/// Where nothing was answered, a sound image of the opened store without an mtr above it may be left. Where a commit was
+/// acknowledged it may not, and neither may another store. Of a disk that doesn't tell nothing is said.
+pub fn law_left_run_examples<D: Disk>()
+    ensures nothing { (opened image : Image) (script : Script) → IsOpenedStore opened.store image → SoundImage image
+        → logged_above image ≡ [] → IsLeftOfRun opened script (step_transcript 0 0) image }
+    ensures not_lost { (opened image : Image) (script : Script) → logged_above image ≡ []
+        → ¬ IsLeftOfRun opened script (acknowledging_transcript 8) image }
+    ensures not_another { (opened image : Image) (script : Script) (transcript : Transcript)
+        → (header_in_force image.store).llsn ≢ (header_in_force opened.store).llsn → ¬ IsLeftOfRun opened script transcript image }
+    ensures closed { (o : CoreOpening) (image : Image) (script : Script) → SoundImage image → logged_above image ≡ []
+        → IsClosedFor script o (step_transcript 0 0) image }
+    ensures not_closed { (o : CoreOpening) (image : Image) (script : Script) → logged_above image ≡ []
+        → ¬ IsClosedFor script o (acknowledging_transcript 8) image }
+    ensures untold { (o : CoreOpening) (script : Script) (transcript : Transcript) (disk : D) → D.tells disk ≡ false
+        → LeavesClosed D.Disk script o (disk ∷ []) transcript }
+    ensures not_left_so { (o : CoreOpening) (image : Image) (script : Script) (disks : List D) → EachTells D.Disk disks
+        → IsOpenedOver image.store o → AreImages D.Disk disks image.logs → logged_above image ≡ []
+        → ¬ LeavesClosed D.Disk script o disks (acknowledging_transcript 8) }
 {}

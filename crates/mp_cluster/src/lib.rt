@@ -7,7 +7,10 @@ mod running;
 mod step;
 mod transcripts;
 
-pub use examples::{law_legal_run_examples, law_run_examples, law_transcript_examples};
-pub use laws::law_run_is_legal;
+pub use examples::{
+    law_left_run_examples, law_legal_run_examples, law_lined_up_examples, law_run_examples,
+    law_transcript_examples,
+};
+pub use laws::{law_run_is_legal, law_run_leaves};
 pub use mp_opening::{ClusterRefusal, SpentNumber};
 pub use step::step_all;

@@ -10,18 +10,19 @@ ghost use Rattle.mp_supports.specs.Work.{Work};
 ghost use Rattle.mp_supports.specs.Kept.{answers_in};
 ghost use Rattle.mp_verdict.specs.Orders.{NodeEntry, entries_given};
 ghost use Rattle.mp_members.specs.Running.{Runs, AreSameMembers, logs_of};
-ghost use Rattle.mp_driver.specs.Driving.{RunsToItsEnd, HaltCause};
-ghost use Rattle.mp_lineup.specs.LiningUp.{MayLineUp, AreListed, work_over};
-ghost use Rattle.mp_cluster.specs.StepRuns.{AreStillThere, StopsFor, stop_of};
+ghost use Rattle.mp_driver.specs.Driving.{RunsToItsEnd};
+ghost use Rattle.mp_lineup.specs.LiningUp.{MayLineUp, AreListed};
+ghost use Rattle.mp_cluster.specs.StepRuns.{AreLinedUp, AreStillThere, DownsRose, LeavesClosed, StopsFor};
 ghost use Rattle.mp_cluster.specs.StepTranscripts.{first_opening, IsStepOver};
 
 use crate::transcripts::transcript_of;
 use mp_core_trx::Base;
-use mp_driver::{Halt, drive};
-use mp_lineup::{line_up, merge, stop};
+use mp_driver::drive;
+use mp_lineup::{line_up, list_downs, merge, stop};
 use mp_members::Members;
-use mp_model::{Answers, Memory, Transcript};
+use mp_model::{Answers, Downs, Memory, Transcript};
 use mp_opening::{ClusterRefusal, Opened};
+use mp_outcome::law_left_outcome;
 use mp_outside::Disk;
 use mp_schedule::Schedule;
 use mp_script::Script;
@@ -46,12 +47,14 @@ pub(crate) fn run_opened<R: Wait, D: Disk + Drop, L: Ledger>(
     requires none { disks.old.items ≡ [] }
     requires room { 8 ≤ vec_capacity disks.old }
     ensures there { AreStillThere D.Disk (map (λ log. log.disk) opened.logs.items) disks.new.items }
-    ensures cause { IfErr result (StopsFor D.Disk (map (λ log. log.disk) opened.logs.items) disks.new.items) }
+    ensures cause { IfErr result StopsFor }
     ensures legal { IfOk result (Legal script.now
         (first_opening (opening_of opened.base script.now.primaries (length (begin_names script.now.lines.items)) opened.pages.items))) }
     ensures readable { IfOk result IsReadable }
     ensures mode { IfOk result (λ transcript. transcript.mode ≡ Step) }
-    ensures up { IfOk result (λ transcript. transcript.downs.items ≡ []) }
+    ensures downs { IfOk result (DownsRose D.Disk (map (λ log. log.disk) opened.logs.items) disks.new.items) }
+    ensures left { IfOk result (LeavesClosed D.Disk script.now
+        (opening_of opened.base script.now.primaries (length (begin_names script.now.lines.items)) opened.pages.items) disks.new.items) }
 {
     let base = opened.base;
     let members = match line_up(alloc, script, opened, disks) {
@@ -61,7 +64,7 @@ pub(crate) fn run_opened<R: Wait, D: Disk + Drop, L: Ledger>(
     run_members::<R, D, L>(rt, blank, alloc, script, base, members, disks)
 }
 
-// The same of members that were lined up over a base and have answered nothing.
+// The same of members that were lined up for it.
 fn run_members<R: Wait, D: Disk + Drop, L: Ledger>(
     rt: &R,
     blank: Blank,
@@ -74,18 +77,21 @@ fn run_members<R: Wait, D: Disk + Drop, L: Ledger>(
     requires name { blank.name ≡ L.name }
     requires parts { (blank.parts ≡ L.parts) × (0 < L.parts) }
     requires spelled { IsSpelled script.now }
-    requires runs { Runs D.Disk (work_over script.now base) members [] }
-    requires primaries { members.shared.opening.trx.primaries ≡ script.now.primaries }
+    requires lined_up { AreLinedUp D.Disk script.now base members }
     requires none { disks.old.items ≡ [] }
     requires room { length (logs_of members) ≤ vec_capacity disks.old }
     ensures there { AreStillThere D.Disk (map (λ log. log.disk) (logs_of members)) disks.new.items }
-    ensures cause { IfErr result (StopsFor D.Disk (map (λ log. log.disk) (logs_of members)) disks.new.items) }
+    ensures cause { IfErr result StopsFor }
     ensures legal { IfOk result (Legal script.now (first_opening members.shared.opening)) }
     ensures readable { IfOk result IsReadable }
     ensures mode { IfOk result (λ transcript. transcript.mode ≡ Step) }
-    ensures up { IfOk result (λ transcript. transcript.downs.items ≡ []) }
+    ensures downs { IfOk result (DownsRose D.Disk (map (λ log. log.disk) (logs_of members)) disks.new.items) }
+    ensures left { IfOk result (LeavesClosed D.Disk script.now members.shared.opening disks.new.items) }
 {
+    // It does nothing: what a crash may leave rests on it.
+    law_left_outcome();
     let driven = drive_script::<R, D, L>(rt, blank, alloc, script, &mut members);
+    let listed = list_downs(alloc, members.primaries.as_slice());
     // `stop` takes the members, so their order is taken out before.
     let Members {
         shared,
@@ -102,13 +108,16 @@ fn run_members<R: Wait, D: Disk + Drop, L: Ledger>(
         order: Vec::new(alloc),
     };
     let stopped = stop(alloc, rest, disks);
-    if let Err(halt) = driven {
-        return Err(refusal_of(halt));
-    }
+    let Ok(()) = driven else {
+        return Err(ClusterRefusal::Memory);
+    };
+    let Ok(downs) = listed else {
+        return Err(ClusterRefusal::Memory);
+    };
     let Ok(lists) = stopped else {
         return Err(ClusterRefusal::Memory);
     };
-    match tell(alloc, base.ts, &order, lists) {
+    match tell(alloc, base.ts, &order, lists, downs) {
         Ok(transcript) => Ok(transcript),
         Err(Memory) => Err(ClusterRefusal::Memory),
     }
@@ -121,7 +130,7 @@ fn drive_script<R: Wait, D: Disk + Drop, L: Ledger>(
     alloc: Global,
     script: &Script,
     members: &mut Members<D>,
-) -> Result<(), Halt>
+) -> Result<(), Memory>
     requires name { blank.name ≡ L.name }
     requires parts { (blank.parts ≡ L.parts) × (0 < L.parts) }
     requires spelled { IsSpelled script.now }
@@ -129,33 +138,26 @@ fn drive_script<R: Wait, D: Disk + Drop, L: Ledger>(
     requires primaries { length members.old.primaries.items ≡ script.now.primaries }
     ensures ended { OnOk result (RunsToItsEnd D.Disk members.old members.new) }
     ensures same { AreSameMembers D.Disk members.old members.new }
-    ensures cause { IfErr result (HaltCause D.Disk members.old members.new) }
 {
     let mut steps = Steps::<L>::new(blank);
-    let mut schedule = match Schedule::new(alloc, script) {
-        Ok(schedule) => schedule,
-        Err(Memory) => return Err(Halt::Memory),
-    };
+    let mut schedule = Schedule::new(alloc, script)?;
     let sessions = script.sessions.as_slice();
     drive(rt, members, sessions, &mut schedule, &mut steps)
 }
 
 // The transcript of the answers of all primaries, in the order in which they were given, by the numbers of the primaries in
-// that order.
-fn tell(alloc: Global, base: u64, order: &[u8], lists: Vec<Answers>) -> Result<Transcript, Memory>
+// that order, and of those that are down.
+fn tell(
+    alloc: Global,
+    base: u64,
+    order: &[u8],
+    lists: Vec<Answers>,
+    downs: Downs,
+) -> Result<Transcript, Memory>
     requires { (given : List NodeEntry) × AreListed given order.now (map (λ list. list.items) lists.items) }
     ensures { IfOk result (λ transcript. (given : List NodeEntry) → AreListed given order.now (map (λ list. list.items) lists.items)
-        → IsStepOver base (answers_in (entries_given given)) transcript) }
+        → IsStepOver base (answers_in (entries_given given)) downs.items transcript) }
 {
     let answers = merge(alloc, order, lists)?;
-    transcript_of(alloc, base, answers)
-}
-
-fn refusal_of(halt: Halt) -> ClusterRefusal
-    ensures { result ≡ stop_of halt }
-{
-    match halt {
-        Halt::LogDisk { primary } => ClusterRefusal::LogDisk { primary },
-        Halt::Memory => ClusterRefusal::Memory,
-    }
+    transcript_of(alloc, base, answers, downs)
 }

@@ -7,13 +7,14 @@ ghost use Rattle.mp_cluster.specs.StepTranscripts.{IsStepOver};
 use mp_model::{Answer, Answers, Downs, Memory, Mode, Part, Parts, Reply, Transcript};
 use std::alloc::Global;
 
-// The transcript with these answers in its one part.
+// The transcript with these answers in its one part, and these primaries that are down.
 pub(crate) fn transcript_of(
     alloc: Global,
     base: u64,
     answers: Answers,
+    downs: Downs,
 ) -> Result<Transcript, Memory>
-    ensures { IfOk result (IsStepOver base answers.items) }
+    ensures { IfOk result (IsStepOver base answers.items downs.items) }
 {
     let commits = count_commits(answers.as_slice());
     let mut parts = Parts::new(alloc);
@@ -25,7 +26,7 @@ pub(crate) fn transcript_of(
         mode: Mode::Step,
         base,
         parts,
-        downs: Downs::new(alloc),
+        downs,
         commits,
     })
 }

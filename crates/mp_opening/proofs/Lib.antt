@@ -1,4 +1,4 @@
 mod OpenedLogs
-mod NothingAbove
+pub mod NothingAbove
 mod OpenedNine
 mod SmallMtrs

@@ -31,7 +31,7 @@ none_above base (m ∷ mtrs) none = elim (cases_lt base m.llsn) [
   | inr le ↦ (le, none_above base mtrs (sym (ap (λ (b : Bool). cond b (Some m.llsn) (first_above base (map (λ (x : Mtr). x.llsn) mtrs))) (le-ltb base m.llsn le)) ∙ none))
 ]
 
-none_left : (base : ℕ) (mtrs : List Mtr) → AllByRecursion (λ mtr. mtr.llsn ≤ base) mtrs → mtrs_above base mtrs ≡ []
+pub none_left : (base : ℕ) (mtrs : List Mtr) → AllByRecursion (λ mtr. mtr.llsn ≤ base) mtrs → mtrs_above base mtrs ≡ []
 none_left base [] all = refl
 none_left base (m ∷ mtrs) all = ap (λ (b : Bool). cond b (m ∷ mtrs_above base mtrs) (mtrs_above base mtrs)) (le-ltb base m.llsn all.0) ∙ none_left base mtrs all.1
 

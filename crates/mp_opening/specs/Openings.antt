@@ -6,6 +6,7 @@ use Rattle.mp_cells.specs.PageMaps.{page_at}
 use Rattle.mp_cells.specs.Trees.{IsClean}
 use Rattle.mp_core_trx.specs.declared.opening.Base.{Base}
 use Rattle.mp_outside.specs.declared.disks.Disk.{Ghosts}
+use Rattle.mp_outside.specs.Disks.{Only}
 use Rattle.mp_files.specs.declared.disks.Disks.{Disks}
 use Rattle.mp_files.specs.Nine.{Image, At, KeptDisk, DiskRose, LogRose}
 use Rattle.mp_log.specs.Logs.{mtrs_of}
@@ -90,6 +91,8 @@ module _ {D : Type 0} (g : Ghosts D) where
   -- list of the logs' disks has room for all of them
   pub record HandsOut (old new : Disks D) (opened : Opened D) : Type 0 where
     pub store : KeptDisk g old.store new.store
+    -- what was read of the store is what a crash leaves of it
+    pub synced : IsTrue (g.tells old.store) → Only (g.seen new.store) (g.image new.store)
     pub none : new.logs.items ≡ []
     pub room : 8 ≤ vec_capacity new.logs
     pub count : length opened.logs.items ≡ 8

@@ -1,6 +1,7 @@
 //! What is read of a store before a run.
 
-ghost use Rattle.std.specs.Prelude.{◌≡◌, length, IsTrue, IfOk, IfErr};
+ghost use Rattle.std.specs.Prelude.{◌≡◌, length, IsTrue, IfOk, IfErr, OnOk};
+ghost use Rattle.mp_outside.specs.Disks.{Only};
 ghost use Rattle.mp_files.specs.Nine.{KeptDisk};
 ghost use Rattle.mp_store.specs.HeaderSides.{IsHeader};
 ghost use Rattle.mp_opening.specs.ReadingContents.{run_refused_by_store, ContentFinds, ContentCause};
@@ -28,6 +29,8 @@ pub(crate) fn read_content<D: Disk>(
 ) -> Result<StoreContent, ClusterRefusal>
     ensures kept { KeptDisk D.Disk disk.old disk.new }
     ensures finds { IsTrue (D.tells disk.old) → ContentFinds (D.seen disk.old) result }
+    // What is read is what a crash leaves.
+    ensures synced { IsTrue (D.tells disk.old) → OnOk result (Only (D.seen disk.new) (D.image disk.new)) }
     ensures header { IfOk result (λ content. IsHeader content.header) }
     ensures count { IfOk result (λ content. length content.pages.items ≡ 4096) }
     ensures cause { IfErr result (ContentCause D.Disk disk.old disk.new) }

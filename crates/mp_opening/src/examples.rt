@@ -1,6 +1,6 @@
 //! Small cases of the definitions of opening, good ones and bad ones, as the contracts of functions that do nothing.
 
-ghost use Rattle.std.specs.Prelude.{◌≡◌, ◌≢◌, ℕ, ◌+◌, ◌*◌, ◌-◌, ◌^◌, ◌<◌, true, false, List, [], ◌∷◌, length, Some, None, Ok, Err};
+ghost use Rattle.std.specs.Prelude.{◌≡◌, ◌≢◌, ℕ, ◌+◌, ◌*◌, ◌-◌, ◌^◌, ◌<◌, true, false, List, [], ◌∷◌, length, Some, None, Ok, Err, IsTrue};
 ghost use Rattle.mp_core_trx.specs.declared.opening.Base.{Base};
 ghost use Rattle.mp_files.specs.declared.disks.Disks.{Disks};
 ghost use Rattle.mp_files.specs.Nine.{Image, KeptDisk};
@@ -89,8 +89,8 @@ pub fn law_may_begin()
 {}
 
 /// A log of primary 1 without mtrs is one that a run begins with, on a disk that holds none; not where it is closed, is that
-/// of another primary, or has an LLSN above the base. What is handed out leaves no disk in the list. A disk is to blame only
-/// where its count of faults rose, and there is no ninth log.
+/// of another primary, or has an LLSN above the base. What is handed out leaves no disk in the list, and of the store a crash
+/// leaves nothing but what was read. A disk is to blame only where its count of faults rose, and there is no ninth log.
 pub fn law_handed_examples<D: Disk>()
     ensures first { (disk : D) → IsText [] (D.seen disk) → HoldsOnly [] (D.image disk) → IsLogFrom D.Disk 0 1 (first_log disk) }
     ensures not_second { (disk : D) → ¬ IsLogFrom D.Disk 0 2 (first_log disk) }
@@ -100,6 +100,8 @@ pub fn law_handed_examples<D: Disk>()
         → IsLogFromAt D.Disk 0 (first_log disk ∷ []) 0 }
     ensures not_at_another { (disk : D) → ¬ IsLogFromAt D.Disk 0 (first_log disk ∷ first_log disk ∷ []) 1 }
     ensures none_left { (old new : Disks D) (opened : Opened D) → length new.logs.items ≡ 1 → ¬ HandsOut D.Disk old new opened }
+    ensures not_unsynced { (old new : Disks D) (opened : Opened D) (file : List ℕ) → IsTrue (D.tells old.store) → D.image new.store file
+        → file ≢ D.seen new.store → ¬ HandsOut D.Disk old new opened }
     ensures memory { (old new : Disks D) → RunCause D.Disk old new cluster.Memory }
     ensures not_to_blame { (old new : Disks D) → D.faults old.store ≡ 0 → D.faults new.store ≡ 0
         → ¬ RunCause D.Disk old new cluster.StoreDisk }

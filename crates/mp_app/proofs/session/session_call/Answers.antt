@@ -3,22 +3,21 @@ use Rattle.std.proofs.Common.{◌∙◌, sym}
 use Rattle.mp_app.specs.declared.commands.Command.TheVariants.{Session}
 use Rattle.mp_app.specs.Calls.{read_of}
 use Rattle.mp_app.specs.Printed.{text_of}
-use Rattle.mp_app.proofs.SaidByCommands.{never_sink, session_said, step_kept, store_no_sink}
+use Rattle.mp_app.proofs.SaidByCommands.{never_sink, step_kept, store_no_sink}
 use Rattle.mp_app.proofs.session.session_call.Goals as goal
 
 pub print-requires : goal.print-requires
-print-requires g c = never_sink g.D.Disk (Session c.args.command.now) (read_of g.S.Source c.args.source.now c.answer_source-output.new.source) c.args.disks.now c.answer_source-output.new.disks _ _
-    (session_said g.D.Disk c.args.command.now (read_of g.S.Source c.args.source.now c.answer_source-output.new.source) c.args.disks.now c.answer_source-output.new.disks _ _ c.answer_source-output.ensures.says)
+print-requires g c = never_sink g.D.Disk (Session c.args.command.now) (read_of g.S.Source c.args.source.now c.answer-output.new.source) c.args.disks.now c.answer-output.new.disks _ _ c.answer-output.ensures.says
 
 pub returns-clause-cut : goal.returns-clause-cut
 returns-clause-cut g c = λ is. record {
-  status = c.answer_source-output.result.status;
-  text = text_of c.answer_source-output.result.printed;
-  said = session_said g.D.Disk c.args.command.now (read_of g.S.Source c.args.source.now c.answer_source-output.new.source) c.args.disks.now c.answer_source-output.new.disks _ _ c.answer_source-output.ensures.says;
+  status = c.answer-output.result.status;
+  text = text_of c.answer-output.result.printed;
+  said = c.answer-output.ensures.says;
   written = c.print.ensures.cut is;
 }
 
 pub returns-clause-refused : goal.returns-clause-refused
 returns-clause-refused g c = λ refused.
-    step_kept g.D.Disk (read_of g.S.Source c.args.source.now c.answer_source-output.new.source) c.args.disks.now c.answer_source-output.new.disks _ _ c.answer_source-output.ensures.says
+    step_kept g.D.Disk c.args.command.now (read_of g.S.Source c.args.source.now c.answer-output.new.source) c.args.disks.now c.answer-output.new.disks _ _ c.answer-output.ensures.says
     (sym (c.print.ensures.written (store_no_sink c.print.result refused)).0 ∙ refused)

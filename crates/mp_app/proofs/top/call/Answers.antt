@@ -1,15 +1,28 @@
 -- The words name the command that is called, and what it says is said; without one the disks are left alone.
 use Rattle.std.proofs.Common.{◌∙◌, map, string_bytes, refl, sym, subst}
 use Rattle.mp_files.proofs.Nines.{KeptDisk-refl, KeptNine-refl, StillNine-refl}
+use Rattle.mp_outside.specs.Sources.{TakesUpTo}
 use Rattle.mp_app.specs.declared.commands.Command.TheVariants.{Session, Plain}
 use Rattle.mp_app.specs.declared.commands.PlainCommand.{PlainCommand}
+use Rattle.mp_app.specs.declared.commands.SessionCommand.{SessionCommand}
 use Rattle.mp_app.specs.declared.commands.PlainCommand.TheVariants.{Init, Recover}
 use Rattle.mp_app.specs.Commands.{Names}
 use Rattle.mp_app.specs.Calls.{read_of}
 use Rattle.mp_app.specs.Printed.{text_of}
-use Rattle.mp_app.proofs.NamedOnce.{plain_once, session_once, session_not_plain}
-use Rattle.mp_app.proofs.SaidByCommands.{front_said, refusal_said, refusal_not_done, done_no_sink}
+use Rattle.mp_app.proofs.NamedOnce.{is_step, plain_once, session_not_plain}
+use Rattle.mp_app.proofs.Reading.{nothing_taken}
+use Rattle.mp_app.proofs.SaidByCommands.{front_said, whole_said, refusal_said, refusal_not_done, done_no_sink}
 use Rattle.mp_app.proofs.top.call.Goals as goal
+
+pub returns-in-Ok-Session-clause-written : goal.returns-in-Ok-Session-clause-written
+returns-in-Ok-Session-clause-written g c = λ no_sink.
+    whole_said g.D.Disk (map string_bytes c.args.words.now) (read_of g.S.Source c.args.source.now c.session_call.new.source) c.args.disks.now c.session_call.new.disks (Session c.in-Ok-Session.command) _ _ _
+    (rw c.in-Ok-Session.field-0-is at c.in-Ok-Session.ensures) (c.session_call.ensures.written no_sink)
+
+pub returns-in-Ok-Plain-clause-written : goal.returns-in-Ok-Plain-clause-written
+returns-in-Ok-Plain-clause-written g c = λ no_sink.
+    whole_said g.D.Disk (map string_bytes c.args.words.now) (read_of g.S.Source c.args.source.now c.plain_call.new.source) c.args.disks.now c.plain_call.new.disks (Plain c.in-Ok-Plain.command) _ _ _
+    (rw c.in-Ok-Plain.field-0-is at c.in-Ok-Plain.ensures) (c.plain_call.ensures.written no_sink)
 
 pub returns-in-Ok-Session-clause-cut : goal.returns-in-Ok-Session-clause-cut
 returns-in-Ok-Session-clause-cut g c = λ is.
@@ -29,10 +42,15 @@ returns-in-Err-clause-cut g c = λ is. record {
   written = c.print.ensures.cut is;
 }
 
--- the source is read by a command of sessions alone
+-- the source is read by `step` without a number alone
 pub returns-in-Ok-Session-clause-unread : goal.returns-in-Ok-Session-clause-unread
 returns-in-Ok-Session-clause-unread g c = λ not_step.
-    absurd (not_step (session_once (map string_bytes c.args.words.now) c.in-Ok-Session.command (rw c.in-Ok-Session.field-0-is at c.in-Ok-Session.ensures)))
+    let named = rw c.in-Ok-Session.field-0-is at c.in-Ok-Session.ensures in
+    c.session_call.ensures.unread (λ is. not_step (subst (λ (k : SessionCommand). Names (map string_bytes c.args.words.now) (Session k)) is named))
+
+pub returns-in-Ok-Plain-clause-bound : goal.returns-in-Ok-Plain-clause-bound
+returns-in-Ok-Plain-clause-bound g c =
+    subst (λ s. TakesUpTo 1048577 (g.S.Source.left c.args.source.now) (g.S.Source.left s)) (sym c.plain_call.ensures.unread) (nothing_taken (g.S.Source.left c.args.source.now))
 
 -- and the disks are touched by the others alone
 pub returns-in-Err-clause-nine : goal.returns-in-Err-clause-nine
@@ -65,7 +83,7 @@ returns-in-Err-clause-refused g c = λ refused. KeptNine-refl g.D.Disk c.args.di
 
 pub returns-in-Ok-Session-clause-untouched : goal.returns-in-Ok-Session-clause-untouched
 returns-in-Ok-Session-clause-untouched g c = λ not_init not_recover not_step.
-    absurd (not_step (session_once (map string_bytes c.args.words.now) c.in-Ok-Session.command (rw c.in-Ok-Session.field-0-is at c.in-Ok-Session.ensures)))
+    absurd (is_step (map string_bytes c.args.words.now) c.in-Ok-Session.command (rw c.in-Ok-Session.field-0-is at c.in-Ok-Session.ensures) not_step)
 
 pub returns-in-Ok-Plain-clause-untouched : goal.returns-in-Ok-Plain-clause-untouched
 returns-in-Ok-Plain-clause-untouched g c = λ not_init not_recover not_step.

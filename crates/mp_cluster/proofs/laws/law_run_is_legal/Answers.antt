@@ -2,7 +2,7 @@ use Rattle.mp_cluster.proofs.EndedMembers.{members_legal, members_readable}
 use Rattle.mp_cluster.proofs.laws.law_run_is_legal.Goals as goal
 
 pub returns-clause-legal : goal.returns-clause-legal
-returns-clause-legal g c = λ script base m given opening transcript spelled runs through primaries opened t. members_legal g.D.Disk script base m given runs spelled through primaries opening opened transcript t
+returns-clause-legal g c = λ script base m given opening transcript spelled runs through primaries begins t. members_legal g.D.Disk script base m given runs spelled through primaries opening begins transcript t
 
 pub returns-clause-readable : goal.returns-clause-readable
-returns-clause-readable g c = λ script base m given opening transcript spelled runs through primaries opened t. members_readable g.D.Disk script base m given runs spelled through primaries opening opened transcript t
+returns-clause-readable g c = λ script base m given opening transcript spelled runs through primaries begins t. members_readable g.D.Disk script base m given runs spelled through primaries opening begins transcript t

@@ -3,11 +3,12 @@ use Rattle.mp_model.specs.declared.transcripts.Transcript.{Transcript}
 use Rattle.mp_script.specs.declared.statements.Line.{Line}
 use Rattle.mp_script.specs.BeginNames.{begin_names}
 use Rattle.mp_core.specs.Invariant.{NumbersFit}
+use Rattle.mp_files.specs.declared.disks.Disks.{Disks}
 use Rattle.mp_files.proofs.Nines.{KeptNine-still}
 use Rattle.mp_shared.specs.Nodes.{opening_of}
 use Rattle.mp_opening.specs.declared.refusals.ClusterRefusal.{ClusterRefusal}
 use Rattle.mp_lineup.proofs.FirstLogs.{few_lines}
-use Rattle.mp_cluster.proofs.RunsOverDisks.{run_still, run_cause, may_line_up, legal_run}
+use Rattle.mp_cluster.proofs.RunsOverDisks.{stop_cause, run_still, run_downs, may_line_up, legal_run, run_left}
 use Rattle.mp_cluster.proofs.step.step_all.Goals as goal
 
 -- what holds of what is answered, or of a refusal
@@ -37,13 +38,25 @@ returns-clause-nine g c =
     run_still g.D.Disk c.args.disks.now c.open_nine.new.disks c.in_ok-opened.opened c.requires.eight c.in_ok-opened.ensures.opened (record { store = c.open_nine.new.disks.store; logs = c.run_opened.new.disks }) refl c.run_opened.ensures.there
 
 pub returns-clause-cause : goal.returns-clause-cause
-returns-clause-cause g c =
-    then_err c.run_opened.result
-    (run_cause g.D.Disk c.args.disks.now c.open_nine.new.disks c.in_ok-opened.opened c.requires.eight c.in_ok-opened.ensures.opened (record { store = c.open_nine.new.disks.store; logs = c.run_opened.new.disks }))
-    c.run_opened.ensures.cause
+returns-clause-cause g c = then_err c.run_opened.result (stop_cause g.D.Disk c.args.disks.now (record { store = c.open_nine.new.disks.store; logs = c.run_opened.new.disks })) c.run_opened.ensures.cause
 
 pub returns-clause-legal : goal.returns-clause-legal
 returns-clause-legal g c =
     then_ok c.run_opened.result
     (legal_run g.D.Disk c.args.disks.now c.args.script.now c.in_ok-opened.opened c.count_begins-begins.result c.in_ok-opened.ensures.finds)
     c.run_opened.ensures.legal
+
+pub returns-clause-downs : goal.returns-clause-downs
+returns-clause-downs g c =
+    then_ok c.run_opened.result
+    (run_downs g.D.Disk c.args.disks.now c.open_nine.new.disks c.in_ok-opened.opened c.requires.eight c.in_ok-opened.ensures.opened (record { store = c.open_nine.new.disks.store; logs = c.run_opened.new.disks }))
+    c.run_opened.ensures.downs
+
+pub returns-clause-left : goal.returns-clause-left
+returns-clause-left g c = λ tells.
+    let new : Disks _ = record { store = c.open_nine.new.disks.store; logs = c.run_opened.new.disks } in
+    then_ok c.run_opened.result
+    (run_left g.D.Disk c.args.disks.now c.args.script.now c.in_ok-opened.opened c.count_begins-begins.result c.in_ok-opened.ensures.finds c.open_nine.new.disks new c.in_ok-opened.ensures.opened refl
+    (run_still g.D.Disk c.args.disks.now c.open_nine.new.disks c.in_ok-opened.opened c.requires.eight c.in_ok-opened.ensures.opened new refl c.run_opened.ensures.there)
+    tells)
+    c.run_opened.ensures.left

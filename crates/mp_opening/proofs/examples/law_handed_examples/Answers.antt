@@ -41,6 +41,9 @@ returns-clause-not_at_another g c = λ disk at. let no : ◌≡◌ {A = ℕ} 1 2
 pub returns-clause-none_left : goal.returns-clause-none_left
 returns-clause-none_left g c = λ old new opened one hands. let none : length new.logs.items ≡ 0 = ap (λ (ds : List _). length ds) hands.none in absurd (omega (arith, none, one))
 
+pub returns-clause-not_unsynced : goal.returns-clause-not_unsynced
+returns-clause-not_unsynced g c = λ old new opened file tells image other hands. other (hands.synced tells file image)
+
 pub returns-clause-not_to_blame : goal.returns-clause-not_to_blame
 returns-clause-not_to_blame g c = λ old new before after rose.
     let no : one_more 0 ≤ 0 = subst (λ (n : ℕ). one_more n ≤ 0) before (subst (λ (n : ℕ). one_more (g.D.Disk.faults old.store) ≤ n) after rose) in absurd (omega (arith, no))

@@ -37,6 +37,7 @@ returns-in-Ok-check_all-clause-opened g c =
     let same : c.hand_out.result.logs.items ≡ logs = ap (λ v. v.items) out.logs in
     let from : c.hand_out.result.base.llsn ≡ base = ap (λ (b : Base). b.llsn) out.base in record {
       store = c.in-Ok.ensures.kept;
+      synced = c.in-Ok.ensures.synced;
       none = on.emptied;
       room = on.room;
       count = ap (λ (ls : List _). length ls) same ∙ on.count;
