@@ -59,7 +59,7 @@ report() {
 if ! is_current; then
     all=$(crates)
     count=$(echo "$all" | wc -l)
-    say "proving and building $count crates; from nothing that takes 25 minutes on 4 processors, 50 on 2"
+    say "proving and building $count crates; from nothing that takes 30 minutes on 4 processors, 60 on 2"
     mkdir -p -- "$app/out" && began=$(mktemp "$app/out/began.XXXXXX") || exit 70
     reporter=
     trap 'rm -f -- "$began"; [ -z "$reporter" ] || kill "$reporter" 2>/dev/null' EXIT
