@@ -10,7 +10,7 @@ use Rattle.mp_script.specs.InTheirPart.{count_from}
 use Rattle.mp_schedule.specs.declared.schedule.Try.{Try}
 use Rattle.mp_schedule.specs.declared.schedule.TryState.{TryState}
 use Rattle.mp_schedule.specs.declared.schedule.TryState.TheVariants.{Free, Waiting, Over}
-use Rattle.mp_schedule.specs.Schedules.{free_try, first_tries, is_left, is_free, HasSessions, without_mark, without_marks, StandsSo, count_left, count_free}
+use Rattle.mp_schedule.specs.Schedules.{free_try, first_tries, tries_on, sessions_of_primary, is_left, is_free, HasSessions, without_mark, without_marks, StandsSo, count_left, count_free}
 
 is_no_item : (x : Try) → ◌≡◌ {A = Option Try} None (Some x) → ⊥
 is_no_item x e = absurd cc
@@ -103,3 +103,16 @@ pub sessions_first : (lines : List Line) (sessions : List SessionOn) → AllByRe
 sessions_first lines sessions all =
     sessions_append (map (λ line. free_try line.session) lines) (map free_try (filter (is_declared sessions) (count_from 1 64)))
     (sessions_lines lines all) (sessions_ends (is_declared sessions) 1 64 (omega arith))
+
+lines_kept : (p : Line → Bool) (lines : List Line) → AllByRecursion (λ line. line.session ≤ 64) lines → AllByRecursion (λ line. line.session ≤ 64) (filter p lines)
+lines_kept p [] all = tt
+lines_kept p (line ∷ lines) all = go (p line) (lines_kept p lines all.1)
+  where
+    go : (b : Bool) → AllByRecursion (λ line. line.session ≤ 64) (filter p lines) → AllByRecursion (λ line. line.session ≤ 64) (cond b (line ∷ filter p lines) (filter p lines))
+    go true rest = (all.0, rest)
+    go false rest = rest
+
+pub sessions_on_primary : (primary : ℕ) (lines : List Line) (sessions : List SessionOn) → AllByRecursion (λ line. line.session ≤ 64) lines → HasSessions (tries_on primary lines sessions)
+sessions_on_primary primary lines sessions all =
+    sessions_first (filter (λ line. is_declared (sessions_of_primary primary sessions) line.session) lines) (sessions_of_primary primary sessions)
+    (lines_kept (λ line. is_declared (sessions_of_primary primary sessions) line.session) lines all)

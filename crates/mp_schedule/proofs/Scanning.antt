@@ -1,5 +1,5 @@
 -- What a scan of tries has seen up to a place, and what marks that are forgotten leave.
-use Rattle.std.proofs.Common.{◌≡◌, ℕ, zero, suc, ◌<◌, ◌≤◌, ◌==◌, ◌||◌, ◌⊎◌, Bool, true, false, List, [], ◌∷◌, length, map, replicate, take, drop, if◌then◌else◌, Option, None, Some, refl, sym, ap, subst, ◌∙◌, inl, inr, ⊎_elim, arith}
+use Rattle.std.proofs.Common.{◌≡◌, ℕ, zero, suc, ◌<◌, ◌≤◌, ◌==◌, ◌||◌, ◌⊎◌, Bool, true, false, List, [], ◌∷◌, length, map, take, drop, if◌then◌else◌, Option, None, Some, refl, sym, ap, subst, ◌∙◌, inl, inr, ⊎_elim, arith}
 use Rattle.std.specs.List.{slice_get, slice_set, AllByRecursion}
 use Rattle.std.proofs.lemmas.Option.{slice_get_within}
 use Rattle.mp_machine.specs.Lists.{IsIn}
@@ -16,19 +16,6 @@ pub record ScannedTo (tries : List Try) (place : ℕ) (busy : List Bool) (waits 
   pub busy_are : (s : ℕ) → s < 256 → slice_get busy s ≡ Some (has_left s (take place tries))
   pub none : NoneMayBeTried place tries
   pub waits_is : ((waits ≡ true) × SomeWaits tries) ⊎ ((waits ≡ false) × AllByRecursion (λ t. t.state ≡ Over) (take place tries))
-
--- before the first try no session is busy
-pub scan_begins : (tries : List Try) (n : ℕ) → 256 ≤ n → ScannedTo tries 0 (replicate n false) false
-scan_begins tries n enough = record {
-  busy_are = λ s within. idle n s (omega (arith, within, enough));
-  none = λ place session below may. absurd (omega (arith, below));
-  waits_is = inr (refl, tt);
-}
-  where
-    idle : (n s : ℕ) → s < n → slice_get (replicate n false) s ≡ Some false
-    idle zero s less = absurd (omega (arith, less))
-    idle (suc n) zero less = refl
-    idle (suc n) (suc s) less = idle n s (omega (arith, less))
 
 pub scanned_so : (tries : List Try) (place next : ℕ) (busy now : List Bool) (waits waited : Bool) → next ≡ suc place → now ≡ busy → waited ≡ waits → ScannedTo tries (suc place) busy waits → ScannedTo tries next now waited
 scanned_so tries place next busy now waits waited place_is busy_is waits_is scan =
@@ -61,7 +48,7 @@ all_more [] p t is over all = absurd (no_item t is)
 all_more (x ∷ tries) zero t is over all = let same : x ≡ t = cc in (ap (λ (y : Try). y.state) same ∙ over, tt)
 all_more (x ∷ tries) (suc p) t is over all = (all.0, all_more tries p t is over all.1)
 
-over_left : (s : ℕ) (tries : List Try) → AllByRecursion (λ x. x.state ≡ Over) tries → has_left s tries ≡ false
+pub over_left : (s : ℕ) (tries : List Try) → AllByRecursion (λ x. x.state ≡ Over) tries → has_left s tries ≡ false
 over_left s [] all = refl
 over_left s (x ∷ tries) all = go (x.session == s) refl (over_left s tries all.1)
   where

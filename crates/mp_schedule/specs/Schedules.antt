@@ -19,6 +19,14 @@ free_try session = record { session = session; state = Free }
 abbrev pub first_tries : List Line → List SessionOn → List Try
 first_tries lines sessions = map (λ line. free_try line.session) lines ++ map free_try (filter (is_declared sessions) (count_from 1 64))
 
+-- the sessions of these that are declared on a primary
+abbrev pub sessions_of_primary : ℕ → List SessionOn → List SessionOn
+sessions_of_primary primary sessions = filter (λ on. on.primary == primary) sessions
+
+-- of a script, the statements of the sessions on one primary, in the order of their lines, and then the end of each of them
+abbrev pub tries_on : ℕ → List Line → List SessionOn → List Try
+tries_on primary lines sessions = first_tries (filter (λ line. is_declared (sessions_of_primary primary sessions) line.session) lines) (sessions_of_primary primary sessions)
+
 -- a try that is to come still
 abbrev pub is_left : TryState → Bool
 is_left Free = true
@@ -79,3 +87,11 @@ count_left tries = count_by (λ t. is_left t.state) tries
 
 abbrev pub count_free : List Try → ℕ
 count_free tries = count_by (λ t. is_free t.state) tries
+
+-- all tries below a place are over
+abbrev pub AreOverBelow : ℕ → List Try → Type 0
+AreOverBelow bound tries = (place : ℕ) (t : Try) → place < bound → slice_get tries place ≡ Some t → is_left t.state ≡ false
+
+-- no try at a place or behind it waits
+abbrev pub NoneWaitsFrom : ℕ → List Try → Type 0
+NoneWaitsFrom bound tries = (place : ℕ) (t : Try) → bound ≤ place → slice_get tries place ≡ Some t → is_left t.state ≡ is_free t.state

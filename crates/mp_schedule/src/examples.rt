@@ -3,7 +3,7 @@ ghost use Rattle.std.specs.Prelude.{◌≡◌, true, false, [], ◌∷◌};
 ghost use Rattle.mp_script.specs.declared.statements.Line.{Line};
 ghost use Rattle.mp_schedule.specs.declared.schedule.TryState.TheVariants.{Free, Waiting, Over};
 ghost use Rattle.mp_schedule.specs.declared.schedule.Next.TheVariants as nexts;
-ghost use Rattle.mp_schedule.specs.Schedules.{free_try, first_tries, is_left, has_left, is_free, count_left, count_free, MayBeTried, NoneMayBeTried, SomeWaits, ComesNext, IsNextWithin, HasSessions, without_mark, without_marks, StandsSo};
+ghost use Rattle.mp_schedule.specs.Schedules.{free_try, first_tries, tries_on, sessions_of_primary, is_left, has_left, is_free, count_left, count_free, MayBeTried, NoneMayBeTried, SomeWaits, ComesNext, IsNextWithin, HasSessions, without_mark, without_marks, StandsSo, AreOverBelow, NoneWaitsFrom};
 ghost use Rattle.mp_schedule.specs.SmallTries.{waiting_try, over_try};
 
 /// What comes next, of two tries at most: the first where both are free, and not the second; what may be tried behind one that
@@ -54,4 +54,21 @@ pub fn law_tries_examples()
     ensures not_three { ¬ (count_left (free_try 1 ∷ waiting_try 2 ∷ over_try 3 ∷ []) ≡ 3) }
     ensures one_free { count_free (free_try 1 ∷ waiting_try 2 ∷ over_try 3 ∷ []) ≡ 1 }
     ensures not_two { ¬ (count_free (free_try 1 ∷ waiting_try 2 ∷ over_try 3 ∷ []) ≡ 2) }
+{}
+
+/// The tries of one primary: the statements of its sessions and their ends, and nothing of a session on another. Below the
+/// second of two tries all is over where the first is, and below the end it isn't. From the second one on none waits, and from
+/// the first on one does.
+pub fn law_primary_tries_examples()
+    ensures its_own { (line : Line) → tries_on 2 (record line { session = 3 } ∷ record line { session = 4 } ∷ [])
+        (record { session = 3; primary = 1 } ∷ record { session = 4; primary = 2 } ∷ []) ≡ free_try 4 ∷ free_try 4 ∷ [] }
+    ensures no_others { (line : Line) → ¬ (tries_on 2 (record line { session = 3 } ∷ record line { session = 4 } ∷ [])
+        (record { session = 3; primary = 1 } ∷ record { session = 4; primary = 2 } ∷ []) ≡ free_try 3 ∷ free_try 4 ∷ free_try 4 ∷ []) }
+    ensures sessions { sessions_of_primary 2 (record { session = 3; primary = 1 } ∷ record { session = 4; primary = 2 } ∷ [])
+        ≡ record { session = 4; primary = 2 } ∷ [] }
+    ensures not_both { ¬ (sessions_of_primary 2 (record { session = 3; primary = 1 } ∷ []) ≡ record { session = 3; primary = 1 } ∷ []) }
+    ensures over { AreOverBelow 1 (over_try 1 ∷ free_try 1 ∷ []) }
+    ensures not_over { ¬ AreOverBelow 2 (over_try 1 ∷ free_try 1 ∷ []) }
+    ensures none_waits { NoneWaitsFrom 1 (waiting_try 1 ∷ free_try 1 ∷ []) }
+    ensures waits { ¬ NoneWaitsFrom 0 (waiting_try 1 ∷ free_try 1 ∷ []) }
 {}

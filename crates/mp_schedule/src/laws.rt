@@ -6,7 +6,7 @@ ghost use Rattle.mp_script.specs.declared.statements.SessionOn.{SessionOn};
 ghost use Rattle.mp_schedule.specs.declared.schedule.Try.{Try};
 ghost use Rattle.mp_schedule.specs.declared.schedule.TryState.{TryState};
 ghost use Rattle.mp_schedule.specs.declared.schedule.TryState.TheVariants.{Waiting, Over};
-ghost use Rattle.mp_schedule.specs.Schedules.{first_tries, is_left, is_free, count_left, count_free, HasSessions, StandsSo, without_marks};
+ghost use Rattle.mp_schedule.specs.Schedules.{first_tries, tries_on, is_left, is_free, count_left, count_free, HasSessions, StandsSo, without_marks};
 
 /// Where a try that was left is over, one less is left. Where a free one is found waiting, as many are left, and one less is
 /// free. As many are left where marks are forgotten.
@@ -24,6 +24,8 @@ pub fn law_schedule_counts()
 pub fn law_schedule_sessions()
     ensures first { (lines : List Line) (sessions : List SessionOn) → AllByRecursion (λ line. line.session ≤ 64) lines
         → HasSessions (first_tries lines sessions) }
+    ensures on { (primary : ℕ) (lines : List Line) (sessions : List SessionOn) → AllByRecursion (λ line. line.session ≤ 64) lines
+        → HasSessions (tries_on primary lines sessions) }
     ensures stand { (old new : List Try) (place : ℕ) (state : TryState) → place < length old → StandsSo old place state new
         → HasSessions old → HasSessions new }
     ensures forgotten { (tries : List Try) → HasSessions tries → HasSessions (without_marks tries) }

@@ -5,6 +5,6 @@ mod examples;
 mod laws;
 mod schedule;
 
-pub use examples::{law_schedule_examples, law_tries_examples};
+pub use examples::{law_primary_tries_examples, law_schedule_examples, law_tries_examples};
 pub use laws::{law_schedule_counts, law_schedule_sessions};
 pub use schedule::{Next, Schedule, Try, TryState};

@@ -1,9 +1,9 @@
 //! What is left to try, and what is tried next.
-ghost use Rattle.std.specs.Prelude.{◌≡◌, ◌<◌, ◌++◌, map, filter, length, IfOk, OnOk};
+ghost use Rattle.std.specs.Prelude.{◌≡◌, ◌<◌, ◌≤◌, ◌++◌, ℕ, false, map, filter, length, get_or, IfOk, OnOk};
 ghost use Rattle.mp_script.specs.Entries.{is_declared};
 ghost use Rattle.mp_script.specs.InTheirPart.{count_from};
 ghost use Rattle.mp_schedule.specs.declared.schedule.TryState.TheVariants.{Waiting, Over};
-ghost use Rattle.mp_schedule.specs.Schedules.{first_tries, free_try, ComesNext, IsNextWithin, StandsSo, without_mark, without_marks};
+ghost use Rattle.mp_schedule.specs.Schedules.{first_tries, tries_on, sessions_of_primary, free_try, ComesNext, IsNextWithin, StandsSo, without_mark, without_marks, AreOverBelow, NoneWaitsFrom};
 
 use mp_model::Memory;
 use mp_script::{Line, Script, SessionOn};
@@ -44,6 +44,14 @@ pub enum Next {
 #[derive(Debug, Drop)]
 pub struct Schedule {
     pub tries: Vec<Try>,
+    // All below this place are over, so that no call looks at them again.
+    first: usize,
+    // None from this place on waits.
+    marks_end: usize,
+    ghost first_within: { first ≤ length tries.items },
+    ghost end_within: { marks_end ≤ length tries.items },
+    ghost over: { AreOverBelow first tries.items },
+    ghost unmarked: { NoneWaitsFrom marks_end tries.items },
 }
 
 impl Schedule {
@@ -54,7 +62,19 @@ impl Schedule {
         let mut tries = Vec::new(alloc);
         push_statements(&mut tries, script.lines.as_slice())?;
         push_ends(&mut tries, script.sessions.as_slice())?;
-        Ok(Schedule { tries })
+        Ok(fresh(tries))
+    }
+
+    /// Of a script, what its sessions on one primary (1 to 8) have is to be tried. `Memory` only for want of memory; no later
+    /// call takes any.
+    pub fn of_primary(alloc: Global, script: &Script, primary: u8) -> Result<Schedule, Memory>
+        ensures { IfOk result (λ schedule. schedule.tries.items ≡ tries_on primary script.now.lines.items script.now.sessions.items) }
+    {
+        let own = sessions_on(alloc, script.sessions.as_slice(), primary)?;
+        let mut tries = Vec::new(alloc);
+        push_statements_of(&mut tries, script.lines.as_slice(), own.as_slice())?;
+        push_ends(&mut tries, own.as_slice())?;
+        Ok(fresh(tries))
     }
 
     /// What comes next: the place of a try, below their count, with its session.
@@ -64,7 +84,7 @@ impl Schedule {
     {
         let mut busy = [false; 256];
         let mut waits = false;
-        for place in 0..self.tries.len() {
+        for place in self.first..self.tries.len() {
             let it = self.tries[place];
             let own = it.session as usize;
             match it.state {
@@ -92,6 +112,8 @@ impl Schedule {
         ensures { StandsSo self.old.tries.items place Waiting self.new.tries.items }
     {
         self.tries[place].state = TryState::Waiting;
+        self.first = self.first.min(place);
+        self.marks_end = self.marks_end.max(place + 1);
     }
 
     /// The try at a place is over. Those that wait still wait: `forget` frees them.
@@ -100,17 +122,80 @@ impl Schedule {
         ensures { StandsSo self.old.tries.items place Over self.new.tries.items }
     {
         self.tries[place].state = TryState::Over;
+        self.first = over_from(self.tries.as_slice(), self.first);
     }
 
     /// Those that waited are free again.
     pub fn forget(&mut self)
         ensures { self.new.tries.items ≡ without_marks self.old.tries.items }
     {
-        for place in 0..self.tries.len() {
-            let it = self.tries[place];
-            self.tries[place] = without_mark(it);
+        forget_within(&mut self.tries, self.first, self.marks_end);
+        self.marks_end = 0;
+    }
+}
+
+// A schedule whose tries are all free.
+fn fresh(tries: Vec<Try>) -> Schedule
+    requires { NoneWaitsFrom 0 tries.items }
+    ensures { result.tries.items ≡ tries.items }
+{
+    Schedule {
+        tries,
+        first: 0,
+        marks_end: 0,
+    }
+}
+
+// The first place from one on, below which all are over, where one isn't.
+fn over_from(tries: &[Try], first: usize) -> usize
+    requires within { first ≤ length tries.now }
+    requires over { AreOverBelow first tries.now }
+    ensures within { result ≤ length tries.now }
+    ensures over { AreOverBelow result tries.now }
+{
+    let mut place = first;
+    while place < tries.len() && tries[place].state == TryState::Over {
+        place += 1;
+    }
+    place
+}
+
+// Forgets the marks of tries between two places, where no others have one.
+fn forget_within(tries: &mut Vec<Try>, first: usize, end: usize)
+    requires first { first ≤ length tries.old.items }
+    requires end { end ≤ length tries.old.items }
+    requires over { AreOverBelow first tries.old.items }
+    requires unmarked { NoneWaitsFrom end tries.old.items }
+    ensures { tries.new.items ≡ without_marks tries.old.items }
+{
+    for place in first..end {
+        let it = tries[place];
+        tries[place] = without_mark(it);
+    }
+}
+
+// The sessions that are declared on a primary.
+fn sessions_on(alloc: Global, sessions: &[SessionOn], primary: u8) -> Result<Vec<SessionOn>, Memory>
+    ensures { IfOk result (λ own. own.items ≡ sessions_of_primary primary sessions.now) }
+{
+    let mut own = Vec::new(alloc);
+    for on in sessions {
+        if on.primary == primary {
+            own.push(*on)?;
         }
     }
+    Ok(own)
+}
+
+// By number, whether a session is declared.
+fn declared_in(sessions: &[SessionOn]) -> [bool; 256]
+    ensures { (session : ℕ) → session < 256 → get_or result session false ≡ is_declared sessions.now session }
+{
+    let mut declared = [false; 256];
+    for on in sessions {
+        declared[on.session as usize] = true;
+    }
+    declared
 }
 
 fn push_statements(tries: &mut Vec<Try>, lines: &[Line]) -> Result<(), Memory>
@@ -118,6 +203,24 @@ fn push_statements(tries: &mut Vec<Try>, lines: &[Line]) -> Result<(), Memory>
 {
     for line in lines {
         tries.push(free_try(line.session))?;
+    }
+    Ok(())
+}
+
+// The statements of these sessions alone.
+fn push_statements_of(
+    tries: &mut Vec<Try>,
+    lines: &[Line],
+    sessions: &[SessionOn],
+) -> Result<(), Memory>
+    ensures { OnOk result (tries.new.items ≡ tries.old.items
+        ++ map (λ line. free_try line.session) (filter (λ line. is_declared sessions.now line.session) lines.now)) }
+{
+    let declared = declared_in(sessions);
+    for line in lines {
+        if declared[line.session as usize] {
+            tries.push(free_try(line.session))?;
+        }
     }
     Ok(())
 }

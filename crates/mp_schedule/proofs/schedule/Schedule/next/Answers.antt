@@ -2,7 +2,8 @@ use Rattle.std.proofs.Common.{◌≡◌, ℕ, ◌+◌, ◌<◌, Bool, true, fals
 use Rattle.std.specs.Vec.{vec_len}
 use Rattle.std.proofs.lemmas.List.{length-set}
 use Rattle.std.proofs.lemmas.Option.{slice_get_read, slice_get-get_or}
-use Rattle.mp_schedule.proofs.Scanning.{scan_begins, scanned_so, scanned_over, scanned_waiting, scanned_behind, may_be_tried, next_within}
+use Rattle.mp_schedule.proofs.Scanning.{scanned_so, scanned_over, scanned_waiting, scanned_behind, may_be_tried, next_within}
+use Rattle.mp_schedule.proofs.Marks.{scan_begins_behind}
 use Rattle.mp_schedule.proofs.schedule.Schedule.next.Goals as goal
 use Rattle.mp_schedule.proofs.schedule.Schedule.next.Goals.{in-Over, in-Waiting, in-Free+else-not-busy-own}
 
@@ -13,7 +14,7 @@ busy_at busy session b size small is = slice_get-get_or busy session false (omeg
 pub loop-place-init : goal.loop-place-init
 loop-place-init c = record {
   size = refl;
-  scan = scan_begins c.args.self.now.tries.items 256 (omega arith);
+  scan = scan_begins_behind c.args.self.now.tries.items c.args.self.now.first 256 (omega arith) c.args.self.now.over;
 }
 
 pub returns-then-not-busy-own : goal.returns-then-not-busy-own
