@@ -1,6 +1,3 @@
-mod Appended
-mod ShownDraws
-mod GivenEntries
 mod TurnGoesOn
 mod Turned
 mod Tried

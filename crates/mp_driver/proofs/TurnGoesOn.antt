@@ -19,7 +19,6 @@ use Rattle.mp_script.specs.BeginNames.{begin_names}
 use Rattle.mp_script.specs.Numbered.{IfShowsView, CoversAbove}
 use Rattle.mp_script.specs.Transactions.{cts_of}
 use Rattle.mp_script.proofs.Lists.{all_append, greatest_more}
-use Rattle.mp_script.proofs.Options.{some_is, not_some}
 use Rattle.mp_script.proofs.Ordered.{in_right, in_map, in_filter, from_found, all_in}
 use Rattle.mp_core_trx.specs.declared.part.Draw.{Draw}
 use Rattle.mp_core_trx.specs.Events.{IsNode}
@@ -43,10 +42,11 @@ use Rattle.mp_primary.specs.Turns.{MayTakeTurn, Adds, IsLeftAfter, GoesOnBy, Tak
 use Rattle.mp_primary.proofs.StandsBeside.{stands_beside}
 use Rattle.mp_members.specs.declared.members.Members.{Members}
 use Rattle.mp_members.specs.Running.{IsMember, Runs}
+use Rattle.mp_members.proofs.Turns.{may_turn_on}
 use Rattle.mp_driver.specs.Driving.{number_answering}
-use Rattle.mp_driver.proofs.Appended.{total_more, ascend_one, found_one, found_none}
-use Rattle.mp_driver.proofs.ShownDraws.{count_of, drawn_as_shown, if_began}
-use Rattle.mp_driver.proofs.GivenEntries.{entry_at, by_here, by_other, entries_one, nodes_one, answers_one, AddsOne, adds_one_or_none}
+use Rattle.mp_members.proofs.Appended.{total_more, ascend_one, found_one, found_none}
+use Rattle.mp_members.proofs.ShownDraws.{count_of, drawn_as_shown, if_began}
+use Rattle.mp_members.proofs.GivenEntries.{entry_at, by_here, by_other, entries_one, nodes_one, answers_one, adds_its_answer, AddsOne, adds_one_or_none}
 
 -- The primary at a place took a turn
 pub record TookTurn {D : Type 0} (g : Ghosts D) (place : ℕ) (session : Option ℕ) (old new : Members D) (turn : Turn) : Type 0 where
@@ -58,39 +58,24 @@ pub record TookTurn {D : Type 0} (g : Ghosts D) (place : ℕ) (session : Option 
   pub primaries : new.primaries.items ≡ slice_set old.primaries.items place after
   pub order : new.order.items ≡ old.order.items ++ number_answering before after
 
--- a session that may take a turn may take one behind it
-pub may_turn_on : {D : Type 0} (g : Ghosts D) (run : Run) (old new : PrimaryView D) (before after : NodeView) (session : Option ℕ) (turn : Turn)
-    → TakesTurn g run old new before after session turn → (number : ℕ) → MayTakeTurn old number → MayTakeTurn new number
-may_turn_on g run old new before after session turn takes number may = by_session session refl
-  where
-    untouched : session ≢ Some number → MayTakeTurn new number
-    untouched apart = record { session = may.session; found = takes.others number apart ∙ may.found; inside = may.inside }
-
-    by_session : (o : Option ℕ) → session ≡ o → MayTakeTurn new number
-    by_session None is = untouched (λ same. not_some number (sym is ∙ same))
-    by_session (Some k) is = elim (cases_eq k number) [
-      | inl same ↦ subst (λ (j : ℕ). MayTakeTurn new j) same (subst (λ (o : Option ℕ). IfSome o (λ (j : ℕ). MayTakeTurn new j)) is takes.may_go_on)
-      | inr apart ↦ untouched (λ same. apart (some_is k number (sym is ∙ same)))
-    ]
-
 module _ {D : Type 0} (g : Ghosts D) (work : Work) (given : List NodeEntry) (old : Members D) (r : Runs g work old given) where
   is_node : (place : ℕ) → place < length old.primaries.items → IsNode old.shared.opening.trx (place + 1)
-  is_node place lt = let count = r.count in (omega arith, omega (arith, lt, count))
+  is_node place lt = let count = r.members.count in (omega arith, omega (arith, lt, count))
 
   part_of : (n : ℕ) → IsNode old.shared.opening.trx n → (q : CorePart) × (part_in old.node.parts n ≡ Some q)
-  part_of n node = r.holds n (subst (λ (run : Run). IsNode run.opening.trx n) (sym r.run) node)
+  part_of n node = r.members.holds n (subst (λ (run : Run). IsNode run.opening.trx n) (sym r.members.run) node)
 
   -- each mtr of what was given is in a part
   given_made : (x : NodeEntry) (m : TrxMtr) → IsIn x given → x.entry.trace.mtr ≡ Some m
       → (k : ℕ) × (q : CorePart) × (y : Placed Mtr) × (part_in old.node.parts k ≡ Some q) × IsIn y q.pages.made × (y.at ≡ m.at)
   given_made x m there is =
-      let node = all_in (λ (y : NodeEntry). IsNode old.shared.opening.trx y.node) x given r.of_nodes there in
+      let node = all_in (λ (y : NodeEntry). IsNode old.shared.opening.trx y.node) x given r.members.of_nodes there in
       let low = node.0 in
       let high = node.1 in
-      let count = r.count in
+      let count = r.members.count in
       let at = at_place old.primaries.items (x.node - 1) (omega (arith, low, high, count)) in
       let is_number : (x.node - 1) + 1 ≡ x.node = omega (arith, low) in
-      let member : IsMember g work old given x.node at.0 = subst (λ (n : ℕ). IsMember g work old given n at.0) is_number (r.each (x.node - 1) at.0 at.1) in
+      let member : IsMember g work old given x.node at.0 = subst (λ (n : ℕ). IsMember g work old given n at.0) is_number (r.members.each (x.node - 1) at.0 at.1) in
       let q = part_of x.node node in
       let kept = (member.agrees q.0 (ap (part_in old.node.parts) member.number ∙ q.1)).kept in
       let mine : IsIn x.entry (given_by x.node given) =
@@ -109,7 +94,7 @@ module _ {D : Type 0} (g : Ghosts D) (work : Work) (given : List NodeEntry) (old
     node = is_node place below
 
     member : IsMember g work old given (place + 1) t.before
-    member = r.each place t.before t.was
+    member = r.members.each place t.before t.was
 
     abbrev its_entries : List Entry
     its_entries = given_by (place + 1) given
@@ -157,7 +142,7 @@ module _ {D : Type 0} (g : Ghosts D) (work : Work) (given : List NodeEntry) (old
     clock_on more grew =
         let high = node.1 in
         let number = member.number in
-        let same_run : old.node.run.opening.trx.primaries ≡ old.shared.opening.trx.primaries = ap (λ (run : Run). run.opening.trx.primaries) r.run in
+        let same_run : old.node.run.opening.trx.primaries ≡ old.shared.opening.trx.primaries = ap (λ (run : Run). run.opening.trx.primaries) r.members.run in
         let now : drawn_in new.node t.before.number ≡ length (next.0).trx.drew = ap (λ (o : Option CorePart). drawn_by (trx_in o)) next.1 in
         let then_ : drawn_in old.node t.before.number ≡ length (part.0).trx.drew = ap (λ (o : Option CorePart). drawn_by (trx_in o)) part_is in
         let all : total (drawn_in new.node) (old.node.run.opening.trx.primaries + 1) ≡ total (drawn_in old.node) (old.node.run.opening.trx.primaries + 1) + more =
@@ -179,7 +164,7 @@ module _ {D : Type 0} (g : Ghosts D) (work : Work) (given : List NodeEntry) (old
     -- ---- each member
 
     may_turn : (number : ℕ) → number < 65 → MayTakeTurn t.after number
-    may_turn number low = may_turn_on g old.shared t.before t.after old.node new.node session turn t.takes number (member.may_turn number low)
+    may_turn number low = may_turn_on g t.before t.after old.shared old.node new.node session turn t.takes number (member.may_turn number low)
 
     module _ (more : List NodeEntry) (here : given_by (place + 1) more ≡ its_entries ++ goes.more) (apart : (k : ℕ) → k ≢ place + 1 → given_by k more ≡ given_by k given) where
       itself : IsMember g work new more (place + 1) t.after
@@ -194,7 +179,7 @@ module _ {D : Type 0} (g : Ghosts D) (work : Work) (given : List NodeEntry) (old
 
       another : (k : ℕ) (pr : PrimaryView D) → slice_get old.primaries.items k ≡ Some pr → place ≢ k → IsMember g work new more (k + 1) pr
       another k pr is ne =
-          let m = r.each k pr is in
+          let m = r.members.each k pr is in
           let number = m.number in
           let its_number = member.number in
           let differs : pr.number ≢ t.before.number = λ same. ne (omega (arith, number, its_number, same)) in
@@ -219,7 +204,7 @@ module _ {D : Type 0} (g : Ghosts D) (work : Work) (given : List NodeEntry) (old
       holds_all k is_there = elim (cases_eq k t.before.number) [
         | inl same ↦ (next.0, ap (part_in new.node.parts) same ∙ next.1)
         | inr other ↦
-            let has = r.holds k (subst (λ (run : Run). IsNode run.opening.trx k) t.takes.went.run is_there) in
+            let has = r.members.holds k (subst (λ (run : Run). IsNode run.opening.trx k) t.takes.went.run is_there) in
             (has.0, t.takes.went.others k other ∙ has.1)
       ]
 
@@ -231,17 +216,19 @@ module _ {D : Type 0} (g : Ghosts D) (work : Work) (given : List NodeEntry) (old
           → greatest_cts work.base.ts (numbers (answers_in (entries_given more))) ≡ tso_of new.node
           → Runs g work new more
       goes_with order answered of_nodes rising views clock greatest = record {
-        run = t.takes.stands.desk.its_run ∙ sym t.shared;
-        base = subst (λ (run : Run). run.opening.trx.base ≡ work.base) (sym t.shared) r.base;
-        begins = subst (λ (run : Run). run.opening.trx.begins ≡ length (begin_names work.lines)) (sym t.shared) r.begins;
-        holds = holds_all;
-        reached = t.takes.stands.desk.reached;
-        frames = t.takes.stands.desk.frames;
-        count = ap (λ (l : List (PrimaryView D)). length l) t.primaries ∙ length-set old.primaries.items place t.after ∙ r.count ∙ ap (λ (run : Run). run.opening.trx.primaries) (sym t.shared);
-        each = each_on;
+        members = record {
+          run = t.takes.stands.desk.its_run ∙ sym t.shared;
+          base = subst (λ (run : Run). run.opening.trx.base ≡ work.base) (sym t.shared) r.members.base;
+          begins = subst (λ (run : Run). run.opening.trx.begins ≡ length (begin_names work.lines)) (sym t.shared) r.members.begins;
+          holds = holds_all;
+          reached = t.takes.stands.desk.reached;
+          frames = t.takes.stands.desk.frames;
+          count = ap (λ (l : List (PrimaryView D)). length l) t.primaries ∙ length-set old.primaries.items place t.after ∙ r.members.count ∙ ap (λ (run : Run). run.opening.trx.primaries) (sym t.shared);
+          each = each_on;
+          answered = answered;
+          of_nodes = subst (λ (run : Run). AllByRecursion (λ (x : NodeEntry). IsNode run.opening.trx x.node) more) (sym t.shared) of_nodes;
+        };
         order = order;
-        answered = answered;
-        of_nodes = subst (λ (run : Run). AllByRecursion (λ (x : NodeEntry). IsNode run.opening.trx x.node) more) (sym t.shared) of_nodes;
         rising = rising;
         views = views;
         clock = clock;
@@ -269,7 +256,7 @@ module _ {D : Type 0} (g : Ghosts D) (work : Work) (given : List NodeEntry) (old
       goes_without : Runs g work new given
       goes_without =
           goes_with given (sym (append-nil its_entries) ∙ ap (λ (l : List Entry). its_entries ++ l) (sym none)) (λ k apart. refl)
-          (same_order ∙ r.order) r.answered r.of_nodes r.rising r.views (same_clock ∙ r.clock) (r.greatest ∙ sym same_clock)
+          (same_order ∙ r.order) r.members.answered r.members.of_nodes r.rising r.views (same_clock ∙ r.clock) (r.greatest ∙ sym same_clock)
 
     -- ---- an answer was added
 
@@ -284,9 +271,7 @@ module _ {D : Type 0} (g : Ghosts D) (work : Work) (given : List NodeEntry) (old
       all_answers = answers_in (entries_given given)
 
       adds : Adds t.before t.after h.answer
-      adds =
-          sym answers_are ∙ ap (λ (l : List Entry). answers_in (its_entries ++ l)) h.one ∙ answers_one its_entries h.entry h.answer h.has
-          ∙ ap (λ (l : List Answer). l ++ h.answer ∷ []) answers_were
+      adds = adds_its_answer t.before t.after its_entries goes.more h.entry h.answer answers_were answers_are h.one h.has
 
       answers_then : answers_in (entries_given with_it) ≡ all_answers ++ h.answer ∷ []
       answers_then = ap (λ (l : List Entry). answers_in l) (entries_one given (place + 1) h.entry) ∙ answers_one (entries_given given) h.entry h.answer h.has
@@ -302,10 +287,10 @@ module _ {D : Type 0} (g : Ghosts D) (work : Work) (given : List NodeEntry) (old
           ∙ sym (nodes_one given (place + 1) h.entry)
 
       answered_then : AllByRecursion (λ (x : NodeEntry). is_some x.entry.answer ≡ true) with_it
-      answered_then = all_append (λ (x : NodeEntry). is_some x.entry.answer ≡ true) given (its_entry ∷ []) r.answered (ap (λ (o : Option Answer). is_some o) h.has, tt)
+      answered_then = all_append (λ (x : NodeEntry). is_some x.entry.answer ≡ true) given (its_entry ∷ []) r.members.answered (ap (λ (o : Option Answer). is_some o) h.has, tt)
 
       nodes_then : AllByRecursion (λ (x : NodeEntry). IsNode old.shared.opening.trx x.node) with_it
-      nodes_then = all_append (λ (x : NodeEntry). IsNode old.shared.opening.trx x.node) given (its_entry ∷ []) r.of_nodes (node, tt)
+      nodes_then = all_append (λ (x : NodeEntry). IsNode old.shared.opening.trx x.node) given (its_entry ∷ []) r.members.of_nodes (node, tt)
 
       -- its mtr was made after all others
       made_after : (m : TrxMtr) → h.entry.trace.mtr ≡ Some m → (y : TrxMtr) → IsIn y (filter_map (λ (x : NodeEntry). x.entry.trace.mtr) given) → y.at < m.at
@@ -331,7 +316,7 @@ module _ {D : Type 0} (g : Ghosts D) (work : Work) (given : List NodeEntry) (old
       views_then =
           subst (ViewsCover Step work.base.ts) (sym answers_then)
           (each_below_one (λ over answer. IfShowsView answer (CoversAbove Step work.base.ts over)) [] all_answers h.answer r.views
-          (if_began (CoversAbove Step work.base.ts all_answers) h.answer.reply (λ view shows. (t.takes.begins h.answer view adds shows).1 r.holds ∙ sym r.greatest)))
+          (if_began (CoversAbove Step work.base.ts all_answers) h.answer.reply (λ view shows. (t.takes.begins h.answer view adds shows).1 r.members.holds ∙ sym r.greatest)))
 
       -- the answer shows a number exactly where the part drew one
       supported : Supports t.after.work next.0 t.after.down h.answer h.entry.trace
@@ -362,7 +347,7 @@ module _ {D : Type 0} (g : Ghosts D) (work : Work) (given : List NodeEntry) (old
           let one : count_of (cts_of h.answer.reply) ≡ 1 = ap (λ (o : Option ℕ). count_of o) is in
           let count : length (numbers (answers_in (entries_given with_it))) ≡ length (numbers all_answers) + 1 = ap (λ (l : List ℕ). length l) then_ ∙ length-append (numbers all_answers) (cts ∷ []) in
           let clock = r.clock in
-          let next_one : cts ≡ tso_of old.node + 1 = (t.takes.draws h.answer cts adds is).1 r.holds in
+          let next_one : cts ≡ tso_of old.node + 1 = (t.takes.draws h.answer cts adds is).1 r.members.holds in
           let greatest = r.greatest in
           let last : greatest_cts work.base.ts (numbers all_answers ++ cts ∷ []) ≡ cts = greatest_more work.base.ts (numbers all_answers) cts (omega (arith, greatest, next_one)) in
           (omega (arith, more, one, count, clock), ap (greatest_cts work.base.ts) then_ ∙ last ∙ omega (arith, next_one, more, one))

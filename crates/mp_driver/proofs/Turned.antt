@@ -1,6 +1,5 @@
 -- What a turn of one primary leaves of a run, and one turn behind another.
-use Rattle.std.proofs.Common.{◌≡◌, ◌≢◌, ℕ, zero, suc, ◌+◌, ◌<◌, true, List, [], ◌∷◌, ◌++◌, length, slice_get, slice_set, Option, None, Some, Result, Ok, Err, OnOk, refl, sym, ap, subst, ◌∙◌, inl, inr, ⊎_elim, arith, append_assoc, append-nil}
-use Rattle.std.specs.Option.{IfSome}
+use Rattle.std.proofs.Common.{◌≡◌, ◌≢◌, ℕ, zero, suc, ◌+◌, ◌<◌, true, List, [], ◌∷◌, ◌++◌, length, slice_get, slice_set, Option, None, Some, Result, Ok, Err, OnOk, refl, sym, ap, subst, ◌∙◌, inl, inr, arith, append_assoc, append-nil}
 use Rattle.std.specs.Result.{IfOk}
 use Rattle.std.proofs.lemmas.Bool.{cases_eq}
 use Rattle.std.proofs.lemmas.List.{length-set}
@@ -8,21 +7,17 @@ use Rattle.mp_model.specs.declared.errors.Memory.{Memory}
 use Rattle.mp_model.specs.declared.waiting.Turn.{Turn}
 use Rattle.mp_model.specs.declared.waiting.Turn.TheVariants as turns
 use Rattle.mp_script.proofs.Options.{some_is, not_some}
-use Rattle.mp_book.specs.Through.{have_no_task}
 use Rattle.mp_book.proofs.Items.{after_set}
 use Rattle.mp_outside.specs.declared.disks.Disk.{Ghosts}
-use Rattle.mp_files.specs.Nine.{At, StillDisk}
-use Rattle.mp_files.proofs.Nines.{StillDisk-refl}
-use Rattle.mp_desk.specs.declared.media.Media.{Media}
-use Rattle.mp_shared.specs.Nodes.{Run, NodeView}
+use Rattle.mp_files.specs.Nine.{At}
 use Rattle.mp_verdict.specs.Orders.{NodeEntry}
 use Rattle.mp_primary.specs.Primaries.{PrimaryView}
-use Rattle.mp_primary.specs.Turns.{MayTakeTurn, TakesTurn, has_nothing_left}
+use Rattle.mp_primary.specs.Turns.{TakesTurn}
 use Rattle.mp_primary.specs.Answering.{have_no_line}
-use Rattle.mp_primary.proofs.AllAnswered.{no_task_no_line}
 use Rattle.mp_members.specs.declared.members.Members.{Members}
 use Rattle.mp_members.specs.Running.{IsThrough, Runs, IsSameMember, AreSameMembers}
 use Rattle.mp_members.proofs.SameMembers.{IsSameMember-refl, AreSameMembers-refl, AreSameMembers-trans}
+use Rattle.mp_members.proofs.Turns.{through_done, through_down as member_through}
 use Rattle.mp_driver.specs.Driving.{number_answering, IsThroughAt, IsDownAt, RunsSomehow, DrivesOn, TurnsAt}
 use Rattle.mp_driver.proofs.TurnGoesOn.{TookTurn, turn_goes_on}
 
@@ -40,13 +35,6 @@ set_other (y ∷ ys) zero x (suc other) apart = refl
 set_other (y ∷ ys) (suc place) x zero apart = refl
 set_other (y ∷ ys) (suc place) x (suc other) apart = set_other ys place x other (λ same. apart (ap suc same))
 
--- two lists that have the same at each place
-same_lists : {T : Type 0} (xs ys : List T) → ((place : ℕ) → slice_get xs place ≡ slice_get ys place) → xs ≡ ys
-same_lists [] [] same = refl
-same_lists [] (y ∷ ys) same = absurd (not_some y (same zero))
-same_lists (x ∷ xs) [] same = absurd (not_some x (sym (same zero)))
-same_lists (x ∷ xs) (y ∷ ys) same = let first = some_is x y (same zero) in let rest = same_lists xs ys (λ place. same (suc place)) in λ i. first i ∷ rest i
-
 -- the primaries before a place, and the one there, are through
 pub through_more : {D : Type 0} (place : ℕ) (old new : Members D) → ((k : ℕ) → k < place → IsThroughAt old k)
     → ((other : ℕ) → other ≢ place → slice_get new.primaries.items other ≡ slice_get old.primaries.items other) → IsThroughAt new place
@@ -56,14 +44,10 @@ through_more place old new before others here k low pr is = elim (cases_eq k pla
   | inr apart ↦ before k (omega (arith, low, apart)) pr (sym (others k apart) ∙ is)
 ]
 
--- a primary that has nothing left to do is through
-through_up : {D : Type 0} (pr : PrimaryView D) → have_no_task pr.book.sessions.items ≡ true → IsThrough pr
-through_up pr nothing = record { answered = no_task_no_line pr.book.sessions.items nothing; nothing = λ up. nothing }
-
--- so is one that is down and has answered each statement
+-- a primary that is down and has answered each statement is through
 pub through_down : {D : Type 0} (m : Members D) (place : ℕ) (pr : PrimaryView D) → slice_get m.primaries.items place ≡ Some pr → IsDownAt m place → have_no_line pr.book.sessions.items ≡ true → IsThroughAt m place
 through_down m place pr is down answered other at =
-    subst (λ p. IsThrough p) (some_is pr other (sym is ∙ at)) (record { answered = answered; nothing = λ up. absurd (down pr is up) })
+    subst (λ p. IsThrough p) (some_is pr other (sym is ∙ at)) (member_through pr (down pr is) answered)
 
 module _ {D : Type 0} (g : Ghosts D) where
   -- ---- one behind another
@@ -117,10 +101,7 @@ module _ {D : Type 0} (g : Ghosts D) where
 
     through : session ≡ None → turn ≡ turns.Done → IsThroughAt new place
     through none done pr is =
-        let nothing : have_no_task t.before.book.sessions.items ≡ true = subst (λ (o : Option ℕ). has_nothing_left t.before o ≡ true) none (t.takes.done.0 done).1 in
-        let same : t.after.book.sessions.items ≡ t.before.book.sessions.items =
-        same_lists t.after.book.sessions.items t.before.book.sessions.items (λ k. t.takes.others k (λ named. not_some k (sym none ∙ named))) in
-        subst (λ (p : PrimaryView D). IsThrough p) (its_after pr is) (through_up t.after (ap have_no_task same ∙ nothing))
+        subst (λ (p : PrimaryView D). IsThrough p) (its_after pr is) (through_done g t.before t.after old.shared old.node new.node session turn t.takes none done)
 
     down : (by : ℕ) → turn ≡ turns.Stopped by → IsDownAt new place
     down by stopped pr is =
@@ -137,36 +118,9 @@ module _ {D : Type 0} (g : Ghosts D) where
 
   -- ---- what the call for it answers
 
-  pub may_named : (pr : PrimaryView D) (session : Option ℕ) → ((number : ℕ) → number < 65 → MayTakeTurn pr number) → IfSome session (λ number. number < 65) → IfSome session (MayTakeTurn pr)
-  may_named pr None may low = tt
-  may_named pr (Some number) may low = may number low
-
   module _ (place : ℕ) (session : Option ℕ) (old new : Members D) (before after : PrimaryView D) (was : slice_get old.primaries.items place ≡ Some before) (primaries : new.primaries.items ≡ slice_set old.primaries.items place after) (shared : new.shared ≡ old.shared) (same : AreSameMembers g old new) where
     pub turn_so : (r : Result Turn Memory) → IfOk r (TakesTurn g old.shared before after old.node new.node session)
         → OnOk r (new.order.items ≡ old.order.items ++ number_answering before after) → IfOk r (TurnsAt g place session old new)
     turn_so (Ok turn) takes order = turns_at place session old new turn
         (record { before = before; after = after; was = was; takes = takes; shared = shared; primaries = primaries; order = order }) same
     turn_so (Err memory) takes order = tt
-
-  -- the same member behind a turn, and where there was no memory for it
-  module _ (old new : PrimaryView D) where
-    pub same_behind : (run : Run) (before after : NodeView) (session : Option ℕ) (turn : Turn) → TakesTurn g run old new before after session turn → IsSameMember g old new
-    same_behind run before after session turn takes = record {
-      number = takes.number;
-      work_is = takes.work;
-      disk = record { tells = takes.tells; count = takes.faults };
-      fell = λ own. ⊎_elim
-          (λ (same : new.down ≡ old.down). inl (sym same ∙ own))
-          (λ gone. ⊎_elim (λ here. inr here.1) (λ with_another. absurd (with_another.2.found.apart (own ∙ takes.number))) gone.1)
-          takes.down;
-      stays = λ was. ⊎_elim (λ same. same) (λ gone. absurd (was gone.0)) takes.down;
-    }
-
-    pub same_without : new.media ≡ old.media → new.down ≡ old.down → new.number ≡ old.number → new.work ≡ old.work → IsSameMember g old new
-    same_without media down number work = record {
-      number = number;
-      work_is = work;
-      disk = subst (λ (x : Media D). StillDisk g old.media.log.disk x.log.disk) (sym media) (StillDisk-refl g old.media.log.disk);
-      fell = λ own. inl (sym down ∙ own);
-      stays = λ was. down;
-    }

@@ -118,17 +118,19 @@ module _ {D : Type 0} (g : Ghosts D) (work : Work) (m : Members D) (node : m.nod
 
   pub runs_first : m.order.items ≡ [] → Runs g work m []
   runs_first order = record {
-    run = ap (λ (n : NodeView). n.run) node;
-    base = base;
-    begins = begins;
-    holds = subst HoldsAll (sym node) (first_holds_all m.shared (first_node m.shared) refl);
-    reached = reached;
-    frames = ap (λ (n : NodeView). n.frames) node;
-    count = count;
-    each = is_member;
+    members = record {
+      run = ap (λ (n : NodeView). n.run) node;
+      base = base;
+      begins = begins;
+      holds = subst HoldsAll (sym node) (first_holds_all m.shared (first_node m.shared) refl);
+      reached = reached;
+      frames = ap (λ (n : NodeView). n.frames) node;
+      count = count;
+      each = is_member;
+      answered = tt;
+      of_nodes = tt;
+    };
     order = order;
-    answered = tt;
-    of_nodes = tt;
     rising = tt;
     views = tt;
     clock = let first = ap (λ (n : NodeView). tso_of n) node ∙ first_clock m.shared in let ts = ap (λ (b : Base). b.ts) base in omega (arith, first, ts);

@@ -17,10 +17,10 @@ use Rattle.mp_supports.specs.Work.{Work}
 use Rattle.mp_verdict.specs.Orders.{NodeEntry}
 use Rattle.mp_primary.specs.Primaries.{PrimaryView}
 use Rattle.mp_members.specs.declared.members.Members.{Members}
-use Rattle.mp_members.specs.Running.{downs_in, IsMember, Runs, AreSameMembers, MemberFailed}
+use Rattle.mp_members.specs.Running.{downs_in, IsMember, AreMembers, AreSameMembers, MemberFailed}
 use Rattle.mp_members.proofs.DownAt.{down_there}
 
-module _ {D : Type 0} (g : Ghosts D) (work : Work) (m : Members D) (given : List NodeEntry) (runs : Runs g work m given) where
+module _ {D : Type 0} (g : Ghosts D) (work : Work) (m : Members D) (given : List NodeEntry) (runs : AreMembers g work m given) where
   its_opening : m.node.run.opening ≡ m.shared.opening
   its_opening = ap (λ (r : Run). r.opening) runs.run
 
@@ -59,7 +59,7 @@ module _ {D : Type 0} (g : Ghosts D) (work : Work) (m : Members D) (given : List
       (its, sym (as_in_world (downs_in m n) its) ∙ ap (λ (k : ℕ). (its_world.downs k).own) (sym here) ∙ by.1 ∙ here)
 
 -- a primary that was up, and is down with its own number, failed
-pub failed_where_down : {D : Type 0} (g : Ghosts D) (work : Work) (old new : Members D) (given : List NodeEntry) (n : ℕ) → Runs g work new given → AreSameMembers g old new
+pub failed_where_down : {D : Type 0} (g : Ghosts D) (work : Work) (old new : Members D) (given : List NodeEntry) (n : ℕ) → AreMembers g work new given → AreSameMembers g old new
     → IsNode new.shared.opening.trx n → downs_in old n ≡ 0 → downs_in new n ≡ n → MemberFailed g n old new
 failed_where_down g work old new given n runs same node up down =
     let low = node.0 in

@@ -2,7 +2,7 @@
 use Rattle.std.specs.Prelude.{◌≡◌, ◌≢◌, ◌⊎◌, ℕ, zero, suc, ◌+◌, ◌<◌, true, List, [], ◌++◌, length, map, slice_get, Option, None, Some, is_some}
 use Rattle.std.specs.List.{filter_map, AllByRecursion}
 use Rattle.mp_model.specs.Folded.{AscendsFrom}
-use Rattle.mp_model.specs.declared.transcripts.Mode.TheVariants.{Step}
+use Rattle.mp_model.specs.declared.transcripts.Mode.TheVariants.{Step, Run}
 use Rattle.mp_script.specs.Answers.{ViewsCover}
 use Rattle.mp_script.specs.BeginNames.{begin_names}
 use Rattle.mp_script.specs.Below.{numbers, greatest_cts}
@@ -62,10 +62,9 @@ module _ {D : Type 0} (g : Ghosts D) where
     pub told : IsDownAsTold pr m.node
     pub may_turn : (session : ℕ) → session < 65 → MayTakeTurn pr session
 
-  -- A RUN BETWEEN TWO TURNS: the node has the parts of all primaries of a world that can be reached, each primary is a member,
-  -- and these answers were given in this order: their mtrs rise in the history, each view is the greatest commit above it, and
-  -- the timestamp oracle counts the commits, and shows the greatest of their numbers
-  pub record Runs (work : Work) (m : Members D) (given : List NodeEntry) : Type 0 where
+  -- MEMBERS BETWEEN TWO TURNS: the node has the parts of all primaries of a world that can be reached, each primary is a member,
+  -- and these are the answers that were given, those of each primary in their order
+  pub record AreMembers (work : Work) (m : Members D) (given : List NodeEntry) : Type 0 where
     pub run : m.node.run ≡ m.shared
     pub base : m.shared.opening.trx.base ≡ work.base
     pub begins : m.shared.opening.trx.begins ≡ length (begin_names work.lines)
@@ -74,13 +73,24 @@ module _ {D : Type 0} (g : Ghosts D) where
     pub frames : m.node.frames ≡ []
     pub count : length m.primaries.items ≡ m.shared.opening.trx.primaries
     pub each : (place : ℕ) (pr : PrimaryView D) → slice_get m.primaries.items place ≡ Some pr → IsMember work m given (place + 1) pr
-    pub order : m.order.items ≡ map (λ x. x.node) given
     pub answered : AllByRecursion (λ x. is_some x.entry.answer ≡ true) given
     pub of_nodes : AllByRecursion (λ x. IsNode m.shared.opening.trx x.node) given
+
+  -- A RUN ON ONE THREAD: the answers were given in this order: their mtrs rise in the history, each view is the greatest commit
+  -- above it, and the timestamp oracle counts the commits, and shows the greatest of their numbers
+  pub record Runs (work : Work) (m : Members D) (given : List NodeEntry) : Type 0 where
+    pub members : AreMembers work m given
+    pub order : m.order.items ≡ map (λ x. x.node) given
     pub rising : AscendsFrom (λ t. t.at) 0 (filter_map (λ x. x.entry.trace.mtr) given)
     pub views : ViewsCover Step work.base.ts (answers_in (entries_given given))
     pub clock : tso_of m.node ≡ work.base.ts + length (numbers (answers_in (entries_given given)))
     pub greatest : greatest_cts work.base.ts (numbers (answers_in (entries_given given))) ≡ tso_of m.node
+
+  -- A RUN ON A THREAD FOR EACH PRIMARY: the answers of different primaries have no order; each view that a primary shows is at or
+  -- above the commits that it showed before
+  pub record RunsApart (work : Work) (m : Members D) (given : List NodeEntry) : Type 0 where
+    pub members : AreMembers work m given
+    pub views : (n : ℕ) → IsNode m.shared.opening.trx n → ViewsCover Run work.base.ts (answers_in (given_by n given))
 
   -- The same primary, over the same disk: it tells as before, and its count of faults didn't fall. Where the primary is down
   -- with its own number, it was so, or the count rose; one that was down is so with the same number

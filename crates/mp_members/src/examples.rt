@@ -13,14 +13,15 @@ ghost use Rattle.mp_primary.specs.Primaries.{PrimaryView, PrimaryAgreesIn, Stand
 ghost use Rattle.mp_primary.specs.Downs.{IsDownAsTold};
 ghost use Rattle.mp_primary.specs.Turns.{MayTakeTurn};
 ghost use Rattle.mp_members.specs.declared.members.Members.{Members};
-ghost use Rattle.mp_members.specs.Running.{logs_of, down_in, downs_of, downs_in, IsThrough, AreThrough, IsMember, Runs, IsSameMember, AreSameMembers, MemberFailed};
+ghost use Rattle.mp_members.specs.Running.{logs_of, down_in, downs_of, downs_in, IsThrough, AreThrough, IsMember, AreMembers, Runs, RunsApart, IsSameMember, AreSameMembers, MemberFailed};
 
 use mp_outside::Disk;
 
 /// Idle logs are behind those of the primaries, none of which is left out. All are through where there is no primary, and
 /// not where a session of one that is up skips a transaction. A primary that is down is through where its transaction is left open, one that
 /// is up isn't, and none is whose statement isn't answered. A primary that stands, agrees and is down or up as its part tells is
-/// a member, and one that is down where its part tells otherwise isn't. No run has an answer that isn't in its order.
+/// a member, and one that is down where its part tells otherwise isn't. No run has an answer that isn't in its order. Members whose
+/// node carries a page's frame are in the midst of a turn. Members that answered nothing may run on threads of their own.
 pub fn law_running_examples<D: Disk>()
     ensures idle { (m : Members D) (log : LogView D) → m.primaries.items ≡ [] → m.idle.items ≡ log ∷ [] → logs_of m ≡ log ∷ [] }
     ensures none_left_out { (m : Members D) (pr : PrimaryView D) → m.primaries.items ≡ pr ∷ [] → ¬ (logs_of m ≡ []) }
@@ -37,6 +38,9 @@ pub fn law_running_examples<D: Disk>()
     ensures not_member { (work : Work) (m : Members D) (given : List NodeEntry) (n : ℕ) (pr : PrimaryView D) (q : CorePart)
         → part_in m.node.parts pr.number ≡ Some q → down_of q ≡ 0 → pr.down ≡ 1 → ¬ IsMember D.Disk work m given n pr }
     ensures not_in_order { (work : Work) (m : Members D) (x : NodeEntry) (given : List NodeEntry) → m.order.items ≡ [] → ¬ Runs D.Disk work m (x ∷ given) }
+    ensures not_members { (work : Work) (m : Members D) (given : List NodeEntry) → m.node.frames ≡ 5 ∷ [] → ¬ AreMembers D.Disk work m given }
+    ensures apart { (work : Work) (m : Members D) → AreMembers D.Disk work m [] → RunsApart D.Disk work m [] }
+    ensures not_apart { (work : Work) (m : Members D) (given : List NodeEntry) → m.node.frames ≡ 5 ∷ [] → ¬ RunsApart D.Disk work m given }
 {}
 
 /// Members stay the same where nothing changes, and neither with another number, nor with fewer of them, nor where one that was

@@ -43,13 +43,13 @@ pub returns-clause-somehow : goal.returns-clause-somehow
 returns-clause-somehow g c = λ work m given runs. (work, given, runs)
 
 pub returns-clause-with_a_frame : goal.returns-clause-with_a_frame
-returns-clause-with_a_frame g c = λ m one somehow. a_frame m.node.frames one (somehow.2).frames
+returns-clause-with_a_frame g c = λ m one somehow. a_frame m.node.frames one (somehow.2).members.frames
 
 pub returns-clause-on_here : goal.returns-clause-on_here
 returns-clause-on_here g c = λ m. (DrivesOn-refl g.D.Disk m).runs
 
 pub returns-clause-on_nowhere : goal.returns-clause-on_nowhere
-returns-clause-on_nowhere g c = λ work old new runs one on. a_frame new.node.frames one ((on work [] runs).1).frames
+returns-clause-on_nowhere g c = λ work old new runs one on. a_frame new.node.frames one ((on work [] runs).1).members.frames
 
 pub returns-clause-drives : goal.returns-clause-drives
 returns-clause-drives g c = λ m. DrivesOn-refl g.D.Disk m

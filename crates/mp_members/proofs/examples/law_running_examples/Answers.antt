@@ -53,3 +53,12 @@ returns-clause-not_member g c = λ work m given n pr q has up down is. one_zero 
 
 pub returns-clause-not_in_order : goal.returns-clause-not_in_order
 returns-clause-not_in_order g c = λ work m x given none runs. nothing_some x.node _ (sym runs.order ∙ none)
+
+pub returns-clause-not_members : goal.returns-clause-not_members
+returns-clause-not_members g c = λ work m given carries is. nothing_some 5 [] (sym carries ∙ is.frames)
+
+pub returns-clause-apart : goal.returns-clause-apart
+returns-clause-apart g c = λ work m is. record { members = is; views = λ n node. tt }
+
+pub returns-clause-not_apart : goal.returns-clause-not_apart
+returns-clause-not_apart g c = λ work m given carries is. nothing_some 5 [] (sym carries ∙ is.members.frames)

@@ -8,16 +8,16 @@ use Rattle.mp_model.specs.declared.waiting.Turn.TheVariants.{Answered, Waiting, 
 use Rattle.mp_supports.specs.Kept.{Entry, answers_in}
 use Rattle.mp_verdict.specs.Orders.{NodeEntry, entries_given, given_by}
 use Rattle.mp_primary.specs.Primaries.{PrimaryView}
-use Rattle.mp_primary.specs.Turns.{AddsAnswer, EndsUnprinted, AddsNext}
-use Rattle.mp_driver.proofs.Appended.{found_one}
+use Rattle.mp_primary.specs.Turns.{Adds, AddsAnswer, EndsUnprinted, AddsNext}
+use Rattle.mp_members.proofs.Appended.{found_one}
 
 abbrev pub entry_at : ℕ → Entry → NodeEntry
 entry_at n e = record { node = n; entry = e }
 
-abbrev is_at : ℕ → NodeEntry → Bool
+abbrev pub is_at : ℕ → NodeEntry → Bool
 is_at n x = x.node == n
 
-by_append : (n : ℕ) (given more : List NodeEntry) → given_by n (given ++ more) ≡ given_by n given ++ given_by n more
+pub by_append : (n : ℕ) (given more : List NodeEntry) → given_by n (given ++ more) ≡ given_by n given ++ given_by n more
 by_append n given more =
     ap (λ (l : List NodeEntry). entries_given l) (filter-append (is_at n) given more)
     ∙ map-append (λ (x : NodeEntry). x.entry) (filter (is_at n) given) (filter (is_at n) more)
@@ -41,6 +41,13 @@ nodes_one given n e = map-append (λ (x : NodeEntry). x.node) given (entry_at n 
 
 pub answers_one : (entries : List Entry) (e : Entry) (a : Answer) → e.answer ≡ Some a → answers_in (entries ++ e ∷ []) ≡ answers_in entries ++ a ∷ []
 answers_one entries e a has = found_one (λ (x : Entry). x.answer) entries e a has
+
+-- so where an entry with an answer was added, this answer was
+pub adds_its_answer : {D : Type 0} (old new : PrimaryView D) (entries more : List Entry) (e : Entry) (a : Answer)
+    → answers_in entries ≡ old.book.answers.items → answers_in (entries ++ more) ≡ new.book.answers.items
+    → more ≡ e ∷ [] → e.answer ≡ Some a → Adds old new a
+adds_its_answer old new entries more e a was now one has =
+    sym now ∙ ap (λ (l : List Entry). answers_in (entries ++ l)) one ∙ answers_one entries e a has ∙ ap (λ (l : List Answer). l ++ a ∷ []) was
 
 -- one entry was added, with its answer
 pub record AddsOne (more : List Entry) : Type 0 where

@@ -11,14 +11,14 @@ use Rattle.mp_core.specs.declared.part.CorePart.{CorePart}
 use Rattle.mp_supports.specs.Work.{Work}
 use Rattle.mp_supports.specs.Supports.{Trace, SupportsReply}
 
-abbrev drawn_number : Option Draw → Option ℕ
+abbrev pub drawn_number : Option Draw → Option ℕ
 drawn_number None = None
 drawn_number (Some draw) = Some draw.cts
 
-abbrev number_in : Trace → Option ℕ
+abbrev pub number_in : Trace → Option ℕ
 number_in trace = drawn_number trace.drew
 
-number_shown : (work : Work) (p : CorePart) (down : ℕ) (trace : Trace) (line : Line) (reply : Reply) → SupportsReply work p down trace line reply → number_in trace ≡ cts_of reply
+pub number_shown : (work : Work) (p : CorePart) (down : ℕ) (trace : Trace) (line : Line) (reply : Reply) → SupportsReply work p down trace line reply → number_in trace ≡ cts_of reply
 number_shown work p down trace line (Began view) s = ap number_in s.2
 number_shown work p down trace line (Got value) s = ap number_in s.3.5
 number_shown work p down trace line (Scanned rows) s = ap number_in s.3.8
