@@ -1,0 +1,10 @@
+pub mod DrawnSeen
+pub mod TurnsAlone
+pub mod SamePart
+pub mod Dealt
+pub mod Gathered
+pub mod DrivenAlone
+pub mod DealtOut
+pub mod FirstJoined
+pub mod RanApart
+pub mod Sent
