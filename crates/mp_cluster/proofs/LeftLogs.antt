@@ -5,8 +5,6 @@ use Rattle.std.proofs.lemmas.List.{length-map}
 use Rattle.std.proofs.lemmas.Option.{get_or_from_slice_get}
 use Rattle.mp_model.specs.declared.transcripts.Transcript.{Transcript}
 use Rattle.mp_script.specs.declared.statements.Script.{Script}
-use Rattle.mp_script.specs.DownLines.{down_lines}
-use Rattle.mp_script.specs.Spelling.{IsSpelled}
 use Rattle.mp_cells.specs.declared.records.Mtr.{Mtr}
 use Rattle.mp_core_trx.specs.declared.opening.Base.{Base}
 use Rattle.mp_core_trx.specs.Events.{IsNode}
@@ -20,25 +18,22 @@ use Rattle.mp_log.specs.Tails.{LogView}
 use Rattle.mp_log.proofs.Given.{text_given}
 use Rattle.mp_recover.specs.Redoing.{mtrs_above}
 use Rattle.mp_supports.specs.Work.{Work}
-use Rattle.mp_supports.specs.Kept.{answers_in}
 use Rattle.mp_supports.specs.Media.{IsOnImage}
-use Rattle.mp_verdict.specs.Orders.{NodeEntry, entries_given}
+use Rattle.mp_verdict.specs.Orders.{NodeEntry}
 use Rattle.mp_cuts.specs.LeftBehind.{LeavesFirst, IsLeftBehind}
 use Rattle.mp_cuts.proofs.KeptImages.{own_image, idle_log}
 use Rattle.mp_members.specs.declared.members.Members.{Members}
-use Rattle.mp_members.specs.Running.{downs_in, logs_of, AreThrough, Runs}
+use Rattle.mp_members.specs.Running.{logs_of, AreMembers}
 use Rattle.mp_members.proofs.DownMembers.{member_of}
 use Rattle.mp_opening.specs.Openings.{IsLogFrom}
 use Rattle.mp_opening.proofs.NothingAbove.{none_left}
 use Rattle.mp_lineup.specs.LiningUp.{work_over}
 use Rattle.mp_cluster.specs.StepRuns.{HasIdleLogs, LeavesClosed}
-use Rattle.mp_cluster.specs.StepTranscripts.{first_opening, IsStepOver}
-use Rattle.mp_cluster.proofs.AnsweredRuns.{ClosesLeft, opened_first}
-use Rattle.mp_cluster.proofs.EndedMembers.{known, agrees_at, its_world, its_facts, its_base, members_sound, members_closed}
+use Rattle.mp_cluster.proofs.EndedMembers.{known, agrees_at, its_world, its_facts, its_base, members_sound, ClosesEach}
 use Rattle.mp_cluster.proofs.PlacesOfLists.{from_mapped}
 use Rattle.mp_cluster.proofs.SameDisks.{disks_in, disk_at}
 
-module _ {D : Type 0} (g : Ghosts D) (script : Script) (base : Base) (m : Members D) (given : List NodeEntry) (runs : Runs g (work_over script base) m given) (has : HasIdleLogs g base m) where
+module _ {D : Type 0} (g : Ghosts D) (script : Script) (base : Base) (m : Members D) (given : List NodeEntry) (members : AreMembers g (work_over script base) m given) (has : HasIdleLogs g base m) where
   abbrev work : Work
   work = work_over script base
 
@@ -47,17 +42,17 @@ module _ {D : Type 0} (g : Ghosts D) (script : Script) (base : Base) (m : Member
 
   -- this may be left of the log of a node
   abbrev Leaves : ℕ → List ℕ → Type 0
-  Leaves n file = LeavesFirst m.shared.opening (its_world g script base m given runs) n file
+  Leaves n file = LeavesFirst m.shared.opening (its_world g script base m given members) n file
 
   -- of the log of a primary
   own_left : (n : ℕ) → IsNode m.shared.opening.trx n → (disk : D) → slice_get disks (n - 1) ≡ Some disk → IsTrue (g.tells disk) → (file : List ℕ) → g.image disk file → Leaves n file
   own_left n node disk at tells file image =
-      let x = member_of g work m given runs n node in
-      let q = agrees_at g work m given runs n node x.0 x.2 in
+      let x = member_of g work m given members n node in
+      let q = agrees_at g work m given members n node x.0 x.2 in
       let its : disk ≡ (x.0).media.log.disk = same_some disk (x.0).media.log.disk (sym at ∙ disk_at g m (n - 1) x.0 x.1) in
       let on = q.2.media.on_disk.images (subst (λ (d : D). g.tells d ≡ true) its tells) file (subst (λ (d : D). g.image d file) its image) in
-      own_image m.shared.opening (its_world g script base m given runs) work n file (its_facts g script base m given runs) (its_base g script base m given runs)
-      (subst (λ (p : CorePart). IsOnImage work n p file) (sym ((known g work m given runs).agrees n q.0 q.1))
+      own_image m.shared.opening (its_world g script base m given members) work n file (its_facts g script base m given members) (its_base g script base m given members)
+      (subst (λ (p : CorePart). IsOnImage work n p file) (sym ((known g work m given members).agrees n q.0 q.1))
       (subst (λ (k : Work). IsOnImage k n q.0 file) x.2.work_is
       (subst (λ (k : ℕ). IsOnImage (x.0).work k q.0 file) (q.2.media.node ∙ x.2.number) on)))
 
@@ -65,7 +60,7 @@ module _ {D : Type 0} (g : Ghosts D) (script : Script) (base : Base) (m : Member
   idle_left : (n : ℕ) → 1 ≤ n → m.shared.opening.trx.primaries < n → (disk : D) → slice_get disks (n - 1) ≡ Some disk → IsTrue (g.tells disk) → (file : List ℕ) → g.image disk file → Leaves n file
   idle_left n low lt disk at tells file image =
       let log = from_mapped (λ (l : LogView D). l.disk) (logs_of m) (n - 1) disk at in
-      let count = runs.count in
+      let count = members.count in
       let here : n - 1 + 1 ≡ n = omega (arith, low) in
       let from : IsLogFrom g base.llsn (n - 1 + 1) log.0 = has.idle (n - 1) (omega (arith, count, lt)) log.0 log.1 in
       let held = from.stands (subst (λ (d : D). g.tells d ≡ true) log.2 tells) in
@@ -75,9 +70,9 @@ module _ {D : Type 0} (g : Ghosts D) (script : Script) (base : Base) (m : Member
         sizes = held.1.sizes;
       } in
       let reads : log_mtrs n file ≡ (mtrs_of held.0, None) = text_given n held.0 file logged (held.1.images file (subst (λ (d : D). g.image d file) log.2 image)) in
-      idle_log m.shared.opening (its_world g script base m given runs) n file (its_facts g script base m given runs) lt
+      idle_log m.shared.opening (its_world g script base m given members) n file (its_facts g script base m given members) lt
       (ap (λ (x : List Mtr × Option ℕ). x.1) reads)
-      (ap (λ (b : Base). mtrs_above b.llsn (log_mtrs n file).0) (sym (its_base g script base m given runs))
+      (ap (λ (b : Base). mtrs_above b.llsn (log_mtrs n file).0) (sym (its_base g script base m given members))
       ∙ ap (λ (x : List Mtr × Option ℕ). mtrs_above base.llsn x.0) reads
       ∙ none_left base.llsn (mtrs_of held.0) held.2)
 
@@ -97,11 +92,10 @@ module _ {D : Type 0} (g : Ghosts D) (script : Script) (base : Base) (m : Member
         | inr le ↦ own_left n (low, le) disk.0 disk.1 tells file.0 image
       ])
 
-  pub leaves_closed : ClosesLeft → IsSpelled script → AreThrough m → m.shared.opening.trx.primaries ≡ script.primaries → (transcript : Transcript)
-      → IsStepOver base.ts (answers_in (entries_given given)) (down_lines (downs_in m) 1 m.shared.opening.trx.primaries) transcript → LeavesClosed g script m.shared.opening disks transcript
-  leaves_closed closes spelled through primaries transcript t tell image over images =
-      let left : IsLeftBehind m.shared.opening (its_world g script base m given runs) image.store image = record { store = refl; logs = each_left tell image.logs images } in
+  pub leaves_closed : (transcript : Transcript) → ClosesEach g script base m given members transcript → LeavesClosed g script m.shared.opening disks transcript
+  leaves_closed transcript closes tell image over images =
+      let left : IsLeftBehind m.shared.opening (its_world g script base m given members) image.store image = record { store = refl; logs = each_left tell image.logs images } in
       record {
-        sound = members_sound g script base m given runs spelled through primaries (first_opening m.shared.opening) (opened_first m.shared.opening) transcript t image.store over image left;
-        closed = λ opening begins. members_closed g script base m given runs spelled through primaries opening begins transcript t image.store over image left closes;
+        sound = members_sound g script base m given members image.store over image left;
+        closed = λ opening begins. closes opening begins image.store over image left;
       }

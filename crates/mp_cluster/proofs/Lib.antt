@@ -4,6 +4,7 @@ pub mod DownDisks
 pub mod DrivenMembers
 pub mod EndedMembers
 pub mod LeftLogs
+pub mod PartsOfLists
 pub mod PlacesOfLists
 pub mod PresentRows
 pub mod RunsOverDisks

@@ -1,4 +1,5 @@
 pub mod Runs
 pub mod StepRuns
 pub mod StepTranscripts
+pub mod RunTranscripts
 pub mod SmallRuns

@@ -2,7 +2,7 @@
 use Rattle.std.specs.Prelude.{ℕ, ◌+◌, List, [], ◌∷◌}
 use Rattle.mp_model.specs.declared.histories.Opening.{Opening}
 use Rattle.mp_model.specs.declared.replies.Reply.TheVariants.{Committed}
-use Rattle.mp_model.specs.declared.transcripts.Mode.TheVariants.{Step}
+use Rattle.mp_model.specs.declared.transcripts.Mode.TheVariants.{Step, Run}
 use Rattle.mp_model.specs.declared.transcripts.Transcript.{Transcript}
 use Rattle.mp_script.specs.declared.statements.Line.{Line}
 use Rattle.mp_script.specs.declared.statements.Script.{Script}
@@ -35,11 +35,21 @@ step_transcript primary commits = record {
   commits = commits;
 }
 
--- the same with one `down` line
+-- the same of mode Run, with parts of these two primaries
+abbrev pub apart_transcript : ℕ → ℕ → Transcript
+apart_transcript first second = record (step_transcript 0 0) {
+  mode = Run;
+  parts = record {
+    items = record { primary = first; answers = record { items = []; spare = 0 } } ∷ record { primary = second; answers = record { items = []; spare = 0 } } ∷ [];
+    spare = 0;
+  };
+}
+
+-- a transcript of mode Step with one `down` line
 abbrev pub down_transcript : ℕ → ℕ → Transcript
 down_transcript primary by = record (step_transcript 0 0) { downs = record { items = record { primary = primary; by = by } ∷ []; spare = 0 } }
 
--- the same where the second statement of session 1 acknowledged a commit with this timestamp
+-- one where the second statement of session 1 acknowledged a commit with this timestamp
 abbrev pub acknowledging_transcript : ℕ → Transcript
 acknowledging_transcript cts = record (step_transcript 0 1) {
   parts = record {

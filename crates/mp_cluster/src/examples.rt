@@ -1,13 +1,14 @@
-//! What the words of a run on one thread mean in small cases, as the contracts of functions that do nothing.
+//! What the words of a run mean in small cases, as the contracts of functions that do nothing.
 ghost use Rattle.std.specs.Prelude.{◌≡◌, ◌≢◌, ◌+◌, false, List, [], ◌∷◌, length, slice_get, None, Some, Ok, Err};
 ghost use Rattle.mp_model.specs.declared.histories.Opening.{Opening};
+ghost use Rattle.mp_model.specs.declared.transcripts.Mode.TheVariants.{Run};
 ghost use Rattle.mp_model.specs.declared.transcripts.Transcript.{Transcript};
 ghost use Rattle.mp_script.specs.declared.statements.Line.{Line};
 ghost use Rattle.mp_script.specs.declared.statements.Script.{Script};
 ghost use Rattle.mp_script.specs.declared.statements.Stmt.TheVariants.{Begin, Commit};
 ghost use Rattle.mp_script.specs.Legal.{Legal};
 ghost use Rattle.mp_files.specs.declared.disks.Disks.{Disks};
-ghost use Rattle.mp_files.specs.Nine.{Image, AllTell, as_read};
+ghost use Rattle.mp_files.specs.Nine.{Image, AllTell, DiskRose, as_read};
 ghost use Rattle.mp_store.specs.StoreFiles.{header_in_force, store_fault};
 ghost use Rattle.mp_core.specs.declared.opening.CoreOpening.{CoreOpening};
 ghost use Rattle.mp_opening.specs.declared.refusals.ClusterRefusal.TheVariants as cluster;
@@ -19,9 +20,10 @@ ghost use Rattle.mp_cuts.specs.LeftBehind.{IsOpenedOver};
 ghost use Rattle.mp_members.specs.declared.members.Members.{Members};
 ghost use Rattle.mp_members.specs.Running.{downs_in, logs_of};
 ghost use Rattle.mp_cluster.specs.Runs.{transactions_of, DownsHaveFailed, IsOpeningOf, RunFinds, IsLegalRun, IsLeftOfRun, RunLeaves};
-ghost use Rattle.mp_cluster.specs.StepRuns.{AreLinedUp, AreStillThere, DownsRose, HasIdleLogs, IsClosedFor, LeavesClosed, StopsFor};
+ghost use Rattle.mp_cluster.specs.StepRuns.{AreLinedUp, AreStillThere, DownsRose, HasIdleLogs, IsClosedFor, IsRefusedOver, IsToldRun, LeavesClosed, LinesUpOver, StopsFor};
+ghost use Rattle.mp_cluster.specs.RunTranscripts.{IsRunOver};
 ghost use Rattle.mp_cluster.specs.StepTranscripts.{first_opening, IsStepOver};
-ghost use Rattle.mp_cluster.specs.SmallRuns.{script_of, step_transcript, down_transcript, acknowledging_transcript, opening_as};
+ghost use Rattle.mp_cluster.specs.SmallRuns.{script_of, step_transcript, apart_transcript, down_transcript, acknowledging_transcript, opening_as};
 
 use mp_outside::Disk;
 
@@ -52,7 +54,7 @@ pub fn law_legal_run_examples<D: Disk>()
 {}
 
 /// A table's first opening has its timestamp. A transcript without answers has one part, of primary 0, and no commit, and tells
-/// those that are down.
+/// those that are down. That of two primaries on threads of their own has a part for each, the first one's first.
 pub fn law_transcript_examples()
     ensures timestamp { (o : CoreOpening) → (first_opening o).base ≡ o.trx.base.ts }
     ensures no_other { (o : CoreOpening) → (first_opening o).base ≢ o.trx.base.ts + 1 }
@@ -61,11 +63,15 @@ pub fn law_transcript_examples()
     ensures not_one_commit { ¬ IsStepOver 7 [] [] (step_transcript 0 1) }
     ensures down { IsStepOver 7 [] (record { primary = 2; by = 1 } ∷ []) (down_transcript 2 1) }
     ensures not_untold { ¬ IsStepOver 7 [] (record { primary = 2; by = 1 } ∷ []) (step_transcript 0 0) }
+    ensures apart { IsRunOver 7 ([] ∷ [] ∷ []) [] (apart_transcript 1 2) }
+    ensures not_descending { ¬ IsRunOver 7 ([] ∷ [] ∷ []) [] (apart_transcript 2 1) }
+    ensures not_one_thread { ¬ IsRunOver 7 ([] ∷ []) [] (step_transcript 1 0) }
 {}
 
 /// No disk is still there where there was one. A run doesn't stop for a disk. Members aren't lined up where one is down, and logs
 /// aren't idle where there are none; where eight primaries have the eight logs, none is. Over the same disks no primary went down
-/// with another, and primary 0 has no log.
+/// with another, and primary 0 has no log. Members aren't lined up over disks whose list isn't empty. Disks that are as they were may
+/// belong to a refusal for want of memory, and not to one that blames the store's. No run on threads has a transcript of mode Step.
 pub fn law_lined_up_examples<D: Disk>()
     ensures none_there { AreStillThere D.Disk [] [] }
     ensures not_gone { (disk : D) → ¬ AreStillThere D.Disk (disk ∷ []) [] }
@@ -79,6 +85,11 @@ pub fn law_lined_up_examples<D: Disk>()
     ensures not_without_a_fault { (disks : Disks D) (disk : D) → slice_get disks.logs.items 0 ≡ Some disk → D.faults disk ≡ 0
         → ¬ DownsHaveFailed D.Disk disks disks (down_transcript 2 1) }
     ensures not_with_nobody { (old new : List D) → ¬ DownsRose D.Disk old new (down_transcript 2 0) }
+    ensures not_over { (script : Script) (base : Base) (m : Members D) (disks : Disks D) (disk : D) → disks.logs.items ≡ disk ∷ []
+        → ¬ LinesUpOver D.Disk script disks disks base m }
+    ensures refused { (disks : Disks D) → IsRefusedOver D.Disk 3 disks disks cluster.Memory }
+    ensures not_blamed { (disks : Disks D) → ¬ DiskRose D.Disk disks.store disks.store → ¬ IsRefusedOver D.Disk 3 disks disks cluster.StoreDisk }
+    ensures not_another_mode { (script : Script) (o : CoreOpening) (old new : List D) → ¬ IsToldRun D.Disk script o Run old new (step_transcript 0 0) }
 {}
 
 /// Where nothing was answered, a sound image of the opened store without an mtr above it may be left. Where a commit was

@@ -12,8 +12,9 @@ ghost use Rattle.mp_supports.specs.Kept.{answers_in};
 ghost use Rattle.mp_verdict.specs.Finished.{BeginsWith};
 ghost use Rattle.mp_verdict.specs.Orders.{NodeEntry, entries_given};
 ghost use Rattle.mp_members.specs.declared.members.Members.{Members};
-ghost use Rattle.mp_members.specs.Running.{downs_in, logs_of, AreThrough, Runs};
+ghost use Rattle.mp_members.specs.Running.{downs_in, logs_of, AreThrough, Runs, RunsApart};
 ghost use Rattle.mp_lineup.specs.LiningUp.{work_over};
+ghost use Rattle.mp_cluster.specs.RunTranscripts.{IsRunOver};
 ghost use Rattle.mp_cluster.specs.StepRuns.{HasIdleLogs, LeavesClosed};
 ghost use Rattle.mp_cluster.specs.StepTranscripts.{IsStepOver};
 
@@ -42,6 +43,35 @@ pub fn law_run_leaves<D: Disk>()
         → IsSpelled script → Runs D.Disk (work_over script base) m given → AreThrough m
         → m.shared.opening.trx.primaries ≡ script.primaries → HasIdleLogs D.Disk base m
         → IsStepOver base.ts (answers_in (entries_given given)) (down_lines (downs_in m) 1 m.shared.opening.trx.primaries) transcript
+        → LeavesClosed D.Disk script m.shared.opening (map (λ log. log.disk) (logs_of m)) transcript }
+{
+    law_left_outcome();
+}
+
+/// Where the members of a run on a thread for each primary are through, the transcript that has the answers of each primary in a
+/// part, and tells those that are down, is legal over what their table was opened with, and readable.
+pub fn law_apart_is_legal<D: Disk>()
+    ensures legal { (script : Script) (base : Base) (m : Members D) (given : List NodeEntry) (opening : Opening) (transcript : Transcript)
+        → IsSpelled script → RunsApart D.Disk (work_over script base) m given → AreThrough m
+        → m.shared.opening.trx.primaries ≡ script.primaries → BeginsWith m.shared.opening opening
+        → IsRunOver base.ts (map (λ pr. pr.book.answers.items) m.primaries.items)
+        (down_lines (downs_in m) 1 m.shared.opening.trx.primaries) transcript
+        → Legal script opening transcript }
+    ensures readable { (script : Script) (base : Base) (m : Members D) (given : List NodeEntry) (opening : Opening) (transcript : Transcript)
+        → IsSpelled script → RunsApart D.Disk (work_over script base) m given → AreThrough m
+        → m.shared.opening.trx.primaries ≡ script.primaries → BeginsWith m.shared.opening opening
+        → IsRunOver base.ts (map (λ pr. pr.book.answers.items) m.primaries.items)
+        (down_lines (downs_in m) 1 m.shared.opening.trx.primaries) transcript
+        → IsReadable transcript }
+{}
+
+/// And what a crash then leaves is as behind a run on one thread.
+pub fn law_apart_leaves<D: Disk>()
+    ensures { (script : Script) (base : Base) (m : Members D) (given : List NodeEntry) (transcript : Transcript)
+        → IsSpelled script → RunsApart D.Disk (work_over script base) m given → AreThrough m
+        → m.shared.opening.trx.primaries ≡ script.primaries → HasIdleLogs D.Disk base m
+        → IsRunOver base.ts (map (λ pr. pr.book.answers.items) m.primaries.items)
+        (down_lines (downs_in m) 1 m.shared.opening.trx.primaries) transcript
         → LeavesClosed D.Disk script m.shared.opening (map (λ log. log.disk) (logs_of m)) transcript }
 {
     law_left_outcome();

@@ -1,96 +1,60 @@
-//! A run of a script over nine disks that were opened.
-ghost use Rattle.std.specs.Prelude.{◌≡◌, ◌<◌, ◌≤◌, List, [], length, map, vec_capacity, IfOk, IfErr, OnOk};
-ghost use Rattle.mp_model.specs.declared.transcripts.Mode.TheVariants.{Step};
-ghost use Rattle.mp_report.specs.Readable.{IsReadable};
-ghost use Rattle.mp_script.specs.BeginNames.{begin_names};
-ghost use Rattle.mp_script.specs.Legal.{Legal};
+//! What the runs of a script over nine disks have in common: how they begin and how they end.
+ghost use Rattle.std.specs.Prelude.{◌≡◌, ◌≢◌, ℕ, ◌+◌, ◌≤◌, [], length, map, slice_get, vec_capacity, Some, Ok, IfOk, IfErr};
+ghost use Rattle.mp_script.specs.DownLines.{down_lines};
 ghost use Rattle.mp_script.specs.Spelling.{IsSpelled};
-ghost use Rattle.mp_shared.specs.Nodes.{opening_of};
-ghost use Rattle.mp_supports.specs.Work.{Work};
-ghost use Rattle.mp_supports.specs.Kept.{answers_in};
-ghost use Rattle.mp_verdict.specs.Orders.{NodeEntry, entries_given};
-ghost use Rattle.mp_members.specs.Running.{Runs, AreSameMembers, logs_of};
-ghost use Rattle.mp_driver.specs.Driving.{RunsToItsEnd};
-ghost use Rattle.mp_lineup.specs.LiningUp.{MayLineUp, AreListed};
-ghost use Rattle.mp_cluster.specs.StepRuns.{AreLinedUp, AreStillThere, DownsRose, LeavesClosed, StopsFor};
-ghost use Rattle.mp_cluster.specs.StepTranscripts.{first_opening, IsStepOver};
+ghost use Rattle.mp_primary.specs.Primaries.{PrimaryView};
+ghost use Rattle.mp_members.specs.Running.{downs_in, logs_of};
+ghost use Rattle.mp_cluster.specs.Runs.{transactions_of};
+ghost use Rattle.mp_cluster.specs.StepRuns.{IsRefusedOver, LinesUpOver, StopsFor};
 
-use crate::transcripts::transcript_of;
 use mp_core_trx::Base;
-use mp_driver::drive;
-use mp_lineup::{line_up, list_downs, merge, stop};
+use mp_files::Disks;
+use mp_lineup::{count_begins, line_up, list_downs, stop};
 use mp_members::Members;
 use mp_model::{Answers, Downs, Memory, Transcript};
-use mp_opening::{ClusterRefusal, Opened};
-use mp_outcome::law_left_outcome;
+use mp_opening::{ClusterRefusal, open_nine};
 use mp_outside::Disk;
-use mp_schedule::Schedule;
 use mp_script::Script;
-use mp_steps::{Blank, Ledger, Steps};
 use std::alloc::Global;
-use std::sync::Wait;
 
-// Runs a script over nine disks that were opened for it, and puts the logs' disks back into their list, which is empty and
-// has room for them, whatever it answers.
-pub(crate) fn run_opened<R: Wait, D: Disk + Drop, L: Ledger>(
-    rt: &R,
-    blank: Blank,
+/// Opens nine disks for a run of a script, and lines up its members over what the store had reached. Where it refuses, the logs'
+/// disks are back in their list.
+pub(crate) fn open_and_line_up<D: Disk + Drop>(
     alloc: Global,
     script: &Script,
-    opened: Opened<D>,
-    disks: &mut Vec<D>,
-) -> Result<Transcript, ClusterRefusal>
-    requires name { blank.name ≡ L.name }
-    requires parts { (blank.parts ≡ L.parts) × (0 < L.parts) }
+    disks: &mut Disks<D>,
+) -> Result<(Base, Members<D>), ClusterRefusal>
+    requires eight { length disks.old.logs.items ≡ 8 }
     requires spelled { IsSpelled script.now }
-    requires may { MayLineUp D.Disk script.now opened }
-    requires none { disks.old.items ≡ [] }
-    requires room { 8 ≤ vec_capacity disks.old }
-    ensures there { AreStillThere D.Disk (map (λ log. log.disk) opened.logs.items) disks.new.items }
-    ensures cause { IfErr result StopsFor }
-    ensures legal { IfOk result (Legal script.now
-        (first_opening (opening_of opened.base script.now.primaries (length (begin_names script.now.lines.items)) opened.pages.items))) }
-    ensures readable { IfOk result IsReadable }
-    ensures mode { IfOk result (λ transcript. transcript.mode ≡ Step) }
-    ensures downs { IfOk result (DownsRose D.Disk (map (λ log. log.disk) opened.logs.items) disks.new.items) }
-    ensures left { IfOk result (LeavesClosed D.Disk script.now
-        (opening_of opened.base script.now.primaries (length (begin_names script.now.lines.items)) opened.pages.items) disks.new.items) }
+    ensures lined_up { IfOk result (λ lined_up. LinesUpOver D.Disk script.now disks.old disks.new lined_up.0 lined_up.1) }
+    ensures refused { IfErr result (IsRefusedOver D.Disk (transactions_of script.now) disks.old disks.new) }
 {
+    let begins = count_begins(script.lines.as_slice());
+    let opened = open_nine(alloc, disks, begins)?;
     let base = opened.base;
-    let members = match line_up(alloc, script, opened, disks) {
-        Ok(members) => members,
-        Err(Memory) => return Err(ClusterRefusal::Memory),
+    let Ok(members) = line_up(alloc, script, opened, &mut disks.logs) else {
+        return Err(ClusterRefusal::Memory);
     };
-    run_members::<R, D, L>(rt, blank, alloc, script, base, members, disks)
+    Ok((base, members))
 }
 
-// The same of members that were lined up for it.
-fn run_members<R: Wait, D: Disk + Drop, L: Ledger>(
-    rt: &R,
-    blank: Blank,
+/// Ends a run: the numbers of the primaries that gave the answers, in the order in which these were given, the answers of each
+/// primary, those of number n at place n - 1, and the `down` lines. It puts the logs' disks back into their list, which is empty and
+/// has room for them, whatever it answers.
+pub(crate) fn end_run<D: Disk + Drop>(
     alloc: Global,
-    script: &Script,
-    base: Base,
-    mut members: Members<D>,
+    members: Members<D>,
     disks: &mut Vec<D>,
-) -> Result<Transcript, ClusterRefusal>
-    requires name { blank.name ≡ L.name }
-    requires parts { (blank.parts ≡ L.parts) × (0 < L.parts) }
-    requires spelled { IsSpelled script.now }
-    requires lined_up { AreLinedUp D.Disk script.now base members }
+) -> Result<(Vec<u8>, Vec<Answers>, Downs), Memory>
+    requires numbers { (place : ℕ) (pr : PrimaryView D) → slice_get members.primaries.items place ≡ Some pr → pr.number ≡ place + 1 }
     requires none { disks.old.items ≡ [] }
     requires room { length (logs_of members) ≤ vec_capacity disks.old }
-    ensures there { AreStillThere D.Disk (map (λ log. log.disk) (logs_of members)) disks.new.items }
-    ensures cause { IfErr result StopsFor }
-    ensures legal { IfOk result (Legal script.now (first_opening members.shared.opening)) }
-    ensures readable { IfOk result IsReadable }
-    ensures mode { IfOk result (λ transcript. transcript.mode ≡ Step) }
-    ensures downs { IfOk result (DownsRose D.Disk (map (λ log. log.disk) (logs_of members)) disks.new.items) }
-    ensures left { IfOk result (LeavesClosed D.Disk script.now members.shared.opening disks.new.items) }
+    ensures put_back { disks.new.items ≡ map (λ log. log.disk) (logs_of members) }
+    ensures order { IfOk result (λ ended. ended.0.items ≡ members.order.items) }
+    ensures lists { IfOk result (λ ended. map (λ list. list.items) ended.1.items
+        ≡ map (λ pr. pr.book.answers.items) members.primaries.items) }
+    ensures downs { IfOk result (λ ended. ended.2.items ≡ down_lines (downs_in members) 1 (length members.primaries.items)) }
 {
-    // It does nothing: what a crash may leave rests on it.
-    law_left_outcome();
-    let driven = drive_script::<R, D, L>(rt, blank, alloc, script, &mut members);
     let listed = list_downs(alloc, members.primaries.as_slice());
     // `stop` takes the members, so their order is taken out before.
     let Members {
@@ -108,56 +72,18 @@ fn run_members<R: Wait, D: Disk + Drop, L: Ledger>(
         order: Vec::new(alloc),
     };
     let stopped = stop(alloc, rest, disks);
-    let Ok(()) = driven else {
-        return Err(ClusterRefusal::Memory);
-    };
-    let Ok(downs) = listed else {
-        return Err(ClusterRefusal::Memory);
-    };
-    let Ok(lists) = stopped else {
-        return Err(ClusterRefusal::Memory);
-    };
-    match tell(alloc, base.ts, &order, lists, downs) {
+    let downs = listed?;
+    let lists = stopped?;
+    Ok((order, lists, downs))
+}
+
+/// What a run that began answers: it is refused for want of memory, and for nothing else.
+pub(crate) fn or_refuse(told: Result<Transcript, Memory>) -> Result<Transcript, ClusterRefusal>
+    ensures answered { IfOk result (λ transcript. told ≡ Ok transcript) }
+    ensures stopped { IfErr result StopsFor }
+{
+    match told {
         Ok(transcript) => Ok(transcript),
         Err(Memory) => Err(ClusterRefusal::Memory),
     }
-}
-
-// Drives members through all of a script, by its schedule.
-fn drive_script<R: Wait, D: Disk + Drop, L: Ledger>(
-    rt: &R,
-    blank: Blank,
-    alloc: Global,
-    script: &Script,
-    members: &mut Members<D>,
-) -> Result<(), Memory>
-    requires name { blank.name ≡ L.name }
-    requires parts { (blank.parts ≡ L.parts) × (0 < L.parts) }
-    requires spelled { IsSpelled script.now }
-    requires runs { (work : Work) × (given : List NodeEntry) × Runs D.Disk work members.old given }
-    requires primaries { length members.old.primaries.items ≡ script.now.primaries }
-    ensures ended { OnOk result (RunsToItsEnd D.Disk members.old members.new) }
-    ensures same { AreSameMembers D.Disk members.old members.new }
-{
-    let mut steps = Steps::<L>::new(blank);
-    let mut schedule = Schedule::new(alloc, script)?;
-    let sessions = script.sessions.as_slice();
-    drive(rt, members, sessions, &mut schedule, &mut steps)
-}
-
-// The transcript of the answers of all primaries, in the order in which they were given, by the numbers of the primaries in
-// that order, and of those that are down.
-fn tell(
-    alloc: Global,
-    base: u64,
-    order: &[u8],
-    lists: Vec<Answers>,
-    downs: Downs,
-) -> Result<Transcript, Memory>
-    requires { (given : List NodeEntry) × AreListed given order.now (map (λ list. list.items) lists.items) }
-    ensures { IfOk result (λ transcript. (given : List NodeEntry) → AreListed given order.now (map (λ list. list.items) lists.items)
-        → IsStepOver base (answers_in (entries_given given)) downs.items transcript) }
-{
-    let answers = merge(alloc, order, lists)?;
-    transcript_of(alloc, base, answers, downs)
 }

@@ -1,8 +1,10 @@
 -- By their parts.
-use Rattle.std.proofs.Common.{◌≡◌, ℕ, ◌≤◌, List, length, slice_get, refl, sym, ap, subst, ◌∙◌, arith}
+use Rattle.std.proofs.Common.{◌≡◌, ℕ, ◌≤◌, List, [], length, slice_get, refl, sym, ap, subst, ◌∙◌, arith}
 use Rattle.std.proofs.lemmas.Option.{slice_get_within}
 use Rattle.mp_outside.specs.Faults.{one_more}
+use Rattle.mp_files.proofs.Nines.{KeptNine-refl, KeptNine-still}
 use Rattle.mp_files.proofs.Places.{same_some}
+use Rattle.mp_histories.proofs.Lists.{nothing_there}
 use Rattle.mp_members.specs.Running.{logs_of}
 use Rattle.mp_cluster.proofs.examples.law_lined_up_examples.Goals as goal
 
@@ -40,3 +42,21 @@ returns-clause-not_without_a_fault g c = λ disks disk first none failed.
 
 pub returns-clause-not_with_nobody : goal.returns-clause-not_with_nobody
 returns-clause-not_with_nobody g c = λ old new failed. let no = failed.0.1 in absurd (omega (arith, no))
+
+pub returns-clause-not_over : goal.returns-clause-not_over
+returns-clause-not_over g c = λ script base m disks disk one up. nothing_there disk [] (sym up.none ∙ one)
+
+pub returns-clause-refused : goal.returns-clause-refused
+returns-clause-refused g c = λ disks. record {
+  nine = KeptNine-still g.D.Disk disks disks (KeptNine-refl g.D.Disk disks);
+  store = (KeptNine-refl g.D.Disk disks).store;
+  finds = λ tells. tt;
+  leaves = tt;
+  cause = tt;
+}
+
+pub returns-clause-not_blamed : goal.returns-clause-not_blamed
+returns-clause-not_blamed g c = λ disks still is. still is.cause
+
+pub returns-clause-not_another_mode : goal.returns-clause-not_another_mode
+returns-clause-not_another_mode g c = λ script o old new told. let mode = told.mode_is in absurd cc

@@ -1,5 +1,6 @@
 -- By their parts.
-use Rattle.std.proofs.Common.{refl, arith}
+use Rattle.std.proofs.Common.{[], ◌∷◌, refl, arith}
+use Rattle.mp_histories.proofs.Lists.{heads_same}
 use Rattle.mp_cluster.proofs.examples.law_transcript_examples.Goals as goal
 
 pub returns-clause-no_other : goal.returns-clause-no_other
@@ -19,3 +20,12 @@ returns-clause-down c = record { mode = refl; base_is = refl; part = (refl, refl
 
 pub returns-clause-not_untold : goal.returns-clause-not_untold
 returns-clause-not_untold c = λ is. let none = is.downs in absurd cc
+
+pub returns-clause-apart : goal.returns-clause-apart
+returns-clause-apart c = record { mode = refl; base_is = refl; primaries = refl; answers = refl; downs = refl; commits = refl }
+
+pub returns-clause-not_descending : goal.returns-clause-not_descending
+returns-clause-not_descending c = λ is. let first = heads_same 2 1 (1 ∷ []) (2 ∷ []) is.primaries in omega (arith, first)
+
+pub returns-clause-not_one_thread : goal.returns-clause-not_one_thread
+returns-clause-not_one_thread c = λ is. let mode = is.mode in absurd cc

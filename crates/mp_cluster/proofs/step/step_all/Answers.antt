@@ -1,62 +1,65 @@
-use Rattle.std.proofs.Common.{ℕ, ◌≤◌, List, length, Result, Ok, Err, IfOk, IfErr, refl, sym, ap, subst, ◌∙◌}
-use Rattle.mp_model.specs.declared.transcripts.Transcript.{Transcript}
-use Rattle.mp_script.specs.declared.statements.Line.{Line}
-use Rattle.mp_script.specs.BeginNames.{begin_names}
-use Rattle.mp_core.specs.Invariant.{NumbersFit}
-use Rattle.mp_files.specs.declared.disks.Disks.{Disks}
-use Rattle.mp_files.proofs.Nines.{KeptNine-still}
-use Rattle.mp_shared.specs.Nodes.{opening_of}
-use Rattle.mp_opening.specs.declared.refusals.ClusterRefusal.{ClusterRefusal}
-use Rattle.mp_lineup.proofs.FirstLogs.{few_lines}
-use Rattle.mp_cluster.proofs.RunsOverDisks.{stop_cause, run_still, run_downs, may_line_up, legal_run, run_left}
+use Rattle.std.proofs.Common.{refl}
+use Rattle.std.proofs.lemmas.Result.{err_from_is_err_and}
+use Rattle.mp_model.specs.declared.transcripts.Mode.TheVariants.{Step}
+use Rattle.mp_cluster.proofs.RunsOverDisks.{SaysOfRun, says}
+use Rattle.mp_cluster.proofs.step.step_all.Given as given
 use Rattle.mp_cluster.proofs.step.step_all.Goals as goal
 
--- what holds of what is answered, or of a refusal
-then_ok : {P Q : Transcript → Type 0} (r : Result Transcript ClusterRefusal) → ((t : Transcript) → P t → Q t) → IfOk r P → IfOk r Q
-then_ok (Ok t) f p = f t p
-then_ok (Err e) f p = tt
+-- all that the run says of its answer
+its : (g : given.Over) (c : goal.After-or_refuse g)
+    → SaysOfRun g.D.Disk c.args.script.now Step c.args.disks.now (record { store = c.open_and_line_up.new.disks.store; logs = c.step_members-told.new.disks }) c.or_refuse.result
+its g c =
+    says g.D.Disk c.args.script.now c.args.disks.now c.open_and_line_up.new.disks c.in_ok-base.base c.in_ok-base.members c.in_ok-base.ensures.lined_up
+    (record { store = c.open_and_line_up.new.disks.store; logs = c.step_members-told.new.disks }) refl c.step_members-told.ensures.there
+    Step c.step_members-told.result c.step_members-told.ensures.told c.or_refuse.result c.or_refuse.ensures.answered c.or_refuse.ensures.stopped
 
-then_err : {P Q : ClusterRefusal → Type 0} (r : Result Transcript ClusterRefusal) → ((e : ClusterRefusal) → P e → Q e) → IfErr r P → IfErr r Q
-then_err (Ok t) f p = tt
-then_err (Err e) f p = f e p
+pub returns-in_err-base-clause-nine : goal.returns-in_err-base-clause-nine
+returns-in_err-base-clause-nine g c = c.in_err-base.ensures.refused.nine
 
-pub count_begins-begins-requires : goal.count_begins-begins-requires
-count_begins-begins-requires g c = subst (λ (lines : List Line). length lines ≤ 10000) (sym c.as_slice.ensures) (few_lines c.args.script.now c.requires.spelled)
+pub returns-in_err-base-clause-store : goal.returns-in_err-base-clause-store
+returns-in_err-base-clause-store g c = c.in_err-base.ensures.refused.store
 
-pub returns-in_err-opened-clause-nine : goal.returns-in_err-opened-clause-nine
-returns-in_err-opened-clause-nine g c = KeptNine-still g.D.Disk c.args.disks.now c.open_nine.new.disks c.in_err-opened.ensures.untouched
+pub returns-in_err-base-clause-finds : goal.returns-in_err-base-clause-finds
+returns-in_err-base-clause-finds g c = λ tells.
+    let returned = err_from_is_err_and c.from_residual.result c.from_residual.ensures.1 in
+    rw (returned.1, returned.2) (c.in_err-base.ensures.refused.finds tells)
 
-pub run_opened-requires-clause-may : goal.run_opened-requires-clause-may
-run_opened-requires-clause-may g c =
-    let opened = c.in_ok-opened.opened in
-    may_line_up g.D.Disk c.args.disks.now c.open_nine.new.disks opened c.requires.eight c.in_ok-opened.ensures.opened c.args.script.now c.requires.spelled
-    (subst (λ (begins : ℕ). (primaries : ℕ) → 1 ≤ primaries → primaries ≤ 8 → NumbersFit (opening_of opened.base primaries begins opened.pages.items))
-    (c.count_begins-begins.ensures ∙ ap (λ (lines : List Line). length (begin_names lines)) c.as_slice.ensures) c.in_ok-opened.ensures.fit)
+pub returns-in_err-base-clause-untouched : goal.returns-in_err-base-clause-untouched
+returns-in_err-base-clause-untouched g c =
+    let returned = err_from_is_err_and c.from_residual.result c.from_residual.ensures.1 in
+    rw (returned.1, returned.2) c.in_err-base.ensures.refused.leaves
+
+pub returns-in_err-base-clause-cause : goal.returns-in_err-base-clause-cause
+returns-in_err-base-clause-cause g c =
+    let returned = err_from_is_err_and c.from_residual.result c.from_residual.ensures.1 in
+    rw (returned.1, returned.2) c.in_err-base.ensures.refused.cause
 
 pub returns-clause-nine : goal.returns-clause-nine
-returns-clause-nine g c =
-    run_still g.D.Disk c.args.disks.now c.open_nine.new.disks c.in_ok-opened.opened c.requires.eight c.in_ok-opened.ensures.opened (record { store = c.open_nine.new.disks.store; logs = c.run_opened.new.disks }) refl c.run_opened.ensures.there
+returns-clause-nine g c = (its g c).nine
+
+pub returns-clause-store : goal.returns-clause-store
+returns-clause-store g c = (its g c).store
+
+pub returns-clause-finds : goal.returns-clause-finds
+returns-clause-finds g c = (its g c).finds
+
+pub returns-clause-untouched : goal.returns-clause-untouched
+returns-clause-untouched g c = (its g c).untouched
 
 pub returns-clause-cause : goal.returns-clause-cause
-returns-clause-cause g c = then_err c.run_opened.result (stop_cause g.D.Disk c.args.disks.now (record { store = c.open_nine.new.disks.store; logs = c.run_opened.new.disks })) c.run_opened.ensures.cause
+returns-clause-cause g c = (its g c).cause
 
 pub returns-clause-legal : goal.returns-clause-legal
-returns-clause-legal g c =
-    then_ok c.run_opened.result
-    (legal_run g.D.Disk c.args.disks.now c.args.script.now c.in_ok-opened.opened c.count_begins-begins.result c.in_ok-opened.ensures.finds)
-    c.run_opened.ensures.legal
+returns-clause-legal g c = (its g c).legal
+
+pub returns-clause-readable : goal.returns-clause-readable
+returns-clause-readable g c = (its g c).readable
+
+pub returns-clause-mode : goal.returns-clause-mode
+returns-clause-mode g c = (its g c).mode_is
 
 pub returns-clause-downs : goal.returns-clause-downs
-returns-clause-downs g c =
-    then_ok c.run_opened.result
-    (run_downs g.D.Disk c.args.disks.now c.open_nine.new.disks c.in_ok-opened.opened c.requires.eight c.in_ok-opened.ensures.opened (record { store = c.open_nine.new.disks.store; logs = c.run_opened.new.disks }))
-    c.run_opened.ensures.downs
+returns-clause-downs g c = (its g c).downs
 
 pub returns-clause-left : goal.returns-clause-left
-returns-clause-left g c = λ tells.
-    let new : Disks _ = record { store = c.open_nine.new.disks.store; logs = c.run_opened.new.disks } in
-    then_ok c.run_opened.result
-    (run_left g.D.Disk c.args.disks.now c.args.script.now c.in_ok-opened.opened c.count_begins-begins.result c.in_ok-opened.ensures.finds c.open_nine.new.disks new c.in_ok-opened.ensures.opened refl
-    (run_still g.D.Disk c.args.disks.now c.open_nine.new.disks c.in_ok-opened.opened c.requires.eight c.in_ok-opened.ensures.opened new refl c.run_opened.ensures.there)
-    tells)
-    c.run_opened.ensures.left
+returns-clause-left g c = (its g c).left

@@ -1,4 +1,4 @@
 use Rattle.mp_cluster.proofs.step.step_all.Given as goal
 
-abbrev pub ghosts-run_opened : goal.ghosts-run_opened
-ghosts-run_opened g a = record { name = a.blank.name; parts = a.blank.parts }
+abbrev pub ghosts-step_members : goal.ghosts-step_members
+ghosts-step_members g a = record { name = a.blank.name; parts = a.blank.parts }

@@ -1,6 +1,6 @@
 use Rattle.std.proofs.Common.{length}
 use Rattle.mp_cluster.proofs.TriesOnPrimaries.{same_tries_on}
-use Rattle.mp_cluster.proofs.running.drive_script.Goals as goal
+use Rattle.mp_cluster.proofs.step.drive_script.Goals as goal
 
 pub drive-requires-clause-on : goal.drive-requires-clause-on
 drive-requires-clause-on g c =
