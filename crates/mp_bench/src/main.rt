@@ -2,6 +2,7 @@
 //! all that was done, and is the same for the same words.
 #![tactic(auto)]
 
+mod changes;
 mod commits;
 mod mtrs;
 mod pages;
@@ -33,7 +34,7 @@ fn main(rt: HostRuntime) -> io::Result<ExitCode> {
 
 fn usage(rt: &HostRuntime) -> io::Result<ExitCode> {
     println!(*rt;
-        "usage: mp_bench pages, mtrs, commits, threads, tables, turns, contend or all ROUNDS"
+        "usage: mp_bench pages, mtrs, commits, threads, tables, turns, contend, changes, rivals or all ROUNDS"
     )?;
     Ok(ExitCode::from(1))
 }
@@ -55,6 +56,10 @@ enum Work {
     Turns,
     /// Four threads take one page 10,000 times each in turn over a shared table.
     Contend,
+    /// One thread changes one page 5,000 times in turn over a shared table.
+    Changes,
+    /// Four threads change one page 5,000 times each in turn over a shared table.
+    Rivals,
 }
 
 // The works that a word names.
@@ -67,6 +72,8 @@ fn works_of(word: &str) -> Option<&'static [Work]> {
         "tables" => Some(&[Work::Tables]),
         "turns" => Some(&[Work::Turns]),
         "contend" => Some(&[Work::Contend]),
+        "changes" => Some(&[Work::Changes]),
+        "rivals" => Some(&[Work::Rivals]),
         "all" => Some(&[
             Work::Pages,
             Work::Mtrs,
@@ -75,6 +82,8 @@ fn works_of(word: &str) -> Option<&'static [Work]> {
             Work::Tables,
             Work::Turns,
             Work::Contend,
+            Work::Changes,
+            Work::Rivals,
         ]),
         _ => None,
     }
@@ -90,6 +99,8 @@ impl Work {
             Work::Tables => "tables",
             Work::Turns => "turns",
             Work::Contend => "contend",
+            Work::Changes => "changes",
+            Work::Rivals => "rivals",
         }
     }
 
@@ -102,6 +113,8 @@ impl Work {
             Work::Tables => tables::open_and_close_each(alloc, rounds),
             Work::Turns => turns::by_one(alloc, rounds),
             Work::Contend => turns::by_four(rt, alloc, rounds),
+            Work::Changes => changes::by_one(alloc, rounds),
+            Work::Rivals => changes::by_four(rt, alloc, rounds),
         }
     }
 }

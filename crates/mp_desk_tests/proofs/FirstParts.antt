@@ -38,10 +38,10 @@ use Rattle.mp_desk_tests.specs.Handover.{HasFirstPart, KnowsNoPage, HasMade}
 
 -- ---- where a primary begins
 
-pub first_fresh : (pages : List PageView) (r : Run) (node : NodeView) → r.opening ≡ over_fresh 3 3 pages → node ≡ first_node r → (p : ℕ)
-    → 1 ≤ p → p ≤ 3 → HasFirstPart node p
-first_fresh pages r node opening is p low high =
-    subst (λ (n : NodeView). HasFirstPart n p) (sym is) record {
+pub first_fresh : (primaries begins : ℕ) (pages : List PageView) (r : Run) (node : NodeView) → r.opening ≡ over_fresh primaries begins pages
+    → node ≡ first_node r → (p : ℕ) → 1 ≤ p → p ≤ primaries → HasFirstPart node p begins
+first_fresh primaries begins pages r node opening is p low high =
+    subst (λ (n : NodeView). HasFirstPart n p begins) (sym is) record {
       part = first_part r (first_node r) refl p its;
       node = its;
       base = ap (λ (o : CoreOpening). o.trx.base) opening;
@@ -52,29 +52,29 @@ first_fresh pages r node opening is p low high =
     its = subst (λ (o : CoreOpening). IsNode o.trx p) (sym opening) (low, high)
 
 module _ (n later : NodeView) (p : ℕ) where
-  pub first_alone : later ≡ node_of_one p n → HasFirstPart n p → HasFirstPart later p
-  first_alone is h = subst (λ (v : NodeView). HasFirstPart v p) (sym is) record {
+  pub first_alone : {begins : ℕ} → later ≡ node_of_one p n → HasFirstPart n p begins → HasFirstPart later p begins
+  first_alone {begins} is h = subst (λ (v : NodeView). HasFirstPart v p begins) (sym is) record {
     part = part_in-only (λ k. k == p) n.parts p ∙ ap (λ b. if b then part_in n.parts p else None) (eq-eqb p p refl) ∙ h.part;
     node = h.node;
     base = h.base;
     begins = h.begins;
   }
 
-  pub first_without : later ≡ node_without p n → (k : ℕ) → ¬ (k ≡ p) → HasFirstPart n k → HasFirstPart later k
-  first_without is k other h = subst (λ (v : NodeView). HasFirstPart v k) (sym is) record {
+  pub first_without : {begins : ℕ} → later ≡ node_without p n → (k : ℕ) → ¬ (k ≡ p) → HasFirstPart n k begins → HasFirstPart later k begins
+  first_without {begins} is k other h = subst (λ (v : NodeView). HasFirstPart v k begins) (sym is) record {
     part = part_in-only (λ j. not (j == p)) n.parts k ∙ ap (λ b. if not b then part_in n.parts k else None) (ne_eqb k p other) ∙ h.part;
     node = h.node;
     base = h.base;
     begins = h.begins;
   }
 
-pub first_held : (n : NodeView) (p : ℕ) → HasFirstPart n p → HoldsPart n p
+pub first_held : {begins : ℕ} (n : NodeView) (p : ℕ) → HasFirstPart n p begins → HoldsPart n p
 first_held n p h = holds_the_part n p (core_part (core_start n.run.opening) p) h.part h.node
 
 -- ---- its transaction
 
-pub first_may_begin : (n : NodeView) (p version : ℕ) → HasFirstPart n p → 1 ≤ version → version ≤ 3 → MayBegin n p version
-first_may_begin n p version h low high =
+pub first_may_begin : (n : NodeView) (p begins version : ℕ) → HasFirstPart n p begins → 1 ≤ version → version ≤ begins → MayBegin n p version
+first_may_begin n p begins version h low high =
     let base : n.run.opening.trx.base.version ≡ 0 = ap (λ (b : Base). b.version) h.base in
     record {
       mine = core_part (core_start n.run.opening) p;
@@ -88,7 +88,7 @@ first_may_begin n p version h low high =
 shown_first : (slot : ℕ) (x : Shown) (rows : List SlotRow) → shown_at (record { slot = slot; shown = x } ∷ rows) slot ≡ x
 shown_first slot x rows = ap (λ b. if b then x else shown_at rows slot) (eq-eqb slot slot refl)
 
-module _ (n later : NodeView) (p : ℕ) (b : Begun) (h : HasFirstPart n p) (is : later ≡ with_trx n p (with_begin b) 2) where
+module _ (n later : NodeView) (p begins : ℕ) (b : Begun) (h : HasFirstPart n p begins) (is : later ≡ with_trx n p (with_begin b) 2) where
   pub begun_fresh : KnowsNoPage later p
   begun_fresh =
       let q = core_part (core_start n.run.opening) p in

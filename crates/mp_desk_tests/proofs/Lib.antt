@@ -1,3 +1,3 @@
-mod FirstParts
-mod FirstMedia
-mod OneWrite
+pub mod FirstParts
+pub mod FirstMedia
+pub mod OneWrite

@@ -23,7 +23,7 @@ use Rattle.mp_desk.specs.Statements.{IsReader, ReadsIn, MakesThen}
 use Rattle.mp_desk.specs.Writes.{PutsValue}
 use Rattle.mp_desk_tests.specs.Handover.{HasMade}
 
-reads_after_put : (p : ℕ) (trx : Begun) (x : Placed Mtr) (q r : CorePart) → MakesThen x q r → row_restored_by x.mtr ≡ None
+pub reads_after_put : (p : ℕ) (trx : Begun) (x : Placed Mtr) (q r : CorePart) → MakesThen x q r → row_restored_by x.mtr ≡ None
     → IsReader p trx q → IsReader p trx r
 reads_after_put p trx x q r puts restored h =
     let made : r.pages.made ≡ x ∷ q.pages.made = puts.made.made ∙ ap (λ (l : List (Placed Mtr)). x ∷ l) puts.quiet.made in
@@ -41,7 +41,7 @@ reads_after_put p trx x q r puts restored h =
     newest_mtr : CorePart → Placed Mtr → TrxMtr
     newest_mtr q x = record { at = x.at; of = trx_of_mtr q.pages.made x.mtr; mtr = x.mtr }
 
-reads_let_go : (p : ℕ) (trx : Begun) (q r : CorePart) → HasLetGo q r → IsReader p trx q → IsReader p trx r
+pub reads_let_go : (p : ℕ) (trx : Begun) (q r : CorePart) → HasLetGo q r → IsReader p trx q → IsReader p trx r
 reads_let_go p trx q r gone h = record {
   node = h.node;
   begun = subst (λ (t : TrxPart). IsIn trx t.begun) (sym gone.trx) h.begun;

@@ -11,12 +11,12 @@ use Rattle.mp_log.specs.Opening.{IsOpened, first_above}
 use Rattle.mp_log.specs.Tails.{LogView}
 use Rattle.mp_desk.specs.Making.{IsOpenLog}
 
--- The node has the part of a primary that took no step, in a run that begins three transactions over a base of zeros
-pub record HasFirstPart (n : NodeView) (p : ℕ) : Type 0 where
+-- The node has the part of a primary that took no step, in a run that begins so many transactions over a base of zeros
+pub record HasFirstPart (n : NodeView) (p many : ℕ) : Type 0 where
   pub part : part_in n.parts p ≡ Some (core_part (core_start n.run.opening) p)
   pub node : IsNode n.run.opening.trx p
   pub base : n.run.opening.trx.base ≡ record { ts = 0; llsn = 0; version = 0 }
-  pub begins : n.run.opening.trx.begins ≡ 3
+  pub begins : n.run.opening.trx.begins ≡ many
 
 -- It has the part of a primary that knows nothing of pages, over the LLSN 0
 pub record KnowsNoPage (n : NodeView) (p : ℕ) : Type 0 where

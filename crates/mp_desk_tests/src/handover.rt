@@ -37,7 +37,7 @@ pub struct Seen {
 }
 
 /// An opened log without an mtr. `None` where it can't be opened, or has mtrs.
-fn first_log<D: Disk + Drop>(alloc: Global, disk: D, p: u8) -> Option<Log<D>>
+pub fn first_log<D: Disk + Drop>(alloc: Global, disk: D, p: u8) -> Option<Log<D>>
     ensures { IfSome result (IsFreshLog D.Disk p) }
 {
     let Ok(log) = Log::open(alloc, disk, p) else {
@@ -53,7 +53,7 @@ fn first_log<D: Disk + Drop>(alloc: Global, disk: D, p: u8) -> Option<Log<D>>
 fn begin_first(shared: &Shared, node: &mut Node, p: u8, version: u32) -> Begun
     requires run { node.old.run ≡ shared.now }
     requires frames { node.old.frames ≡ [] }
-    requires first { HasFirstPart node.old p }
+    requires first { HasFirstPart node.old p 3 }
     requires version { (1 ≤ version) × (version ≤ 3) }
     ensures node { (node.new.run ≡ shared.now) × (node.new.frames ≡ []) }
     ensures fresh { KnowsNoPage node.new p }

@@ -4,7 +4,7 @@ use Rattle.mp_desk_tests.proofs.FirstParts.{first_may_begin, begun_fresh, begun_
 use Rattle.mp_desk_tests.proofs.handover.begin_first.Goals as goal
 
 pub begin-requires-clause-may : goal.begin-requires-clause-may
-begin-requires-clause-may c = first_may_begin c.args.node.now c.args.p c.args.version c.requires.first c.requires.version.0
+begin-requires-clause-may c = first_may_begin c.args.node.now c.args.p 3 c.args.version c.requires.first c.requires.version.0
     c.requires.version.1
 
 pub unreachable-requires : goal.unreachable-requires
@@ -18,8 +18,8 @@ returns-clause-node c = (
 )
 
 pub returns-clause-fresh : goal.returns-clause-fresh
-returns-clause-fresh c = begun_fresh c.args.node.now c.begin.new.node c.args.p c.in-Ok.trx c.requires.first c.in-Ok.ensures.becomes
+returns-clause-fresh c = begun_fresh c.args.node.now c.begin.new.node c.args.p 3 c.in-Ok.trx c.requires.first c.in-Ok.ensures.becomes
 
 pub returns-clause-reads : goal.returns-clause-reads
-returns-clause-reads c = begun_reads c.args.node.now c.begin.new.node c.args.p c.in-Ok.trx c.requires.first c.in-Ok.ensures.becomes
+returns-clause-reads c = begun_reads c.args.node.now c.begin.new.node c.args.p 3 c.in-Ok.trx c.requires.first c.in-Ok.ensures.becomes
     c.in-Ok.ensures.begun.0

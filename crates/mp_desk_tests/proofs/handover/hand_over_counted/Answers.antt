@@ -9,31 +9,31 @@ open-requires g c = fresh_fits 3 3 _ c.in_ok-pages.ensures (lit≤ tt) (lit≤ t
 pub split-requires-clause-part : goal.split-requires-clause-part
 split-requires-clause-part g c =
     let opened = c.in_ok-shared.ensures.opened in
-    first_held c.in_ok-shared.first 2 (first_fresh _ c.in_ok-shared.shared c.in_ok-shared.first opened.0 opened.1 2 (lit≤ tt) (lit≤ tt))
+    first_held c.in_ok-shared.first 2 (first_fresh 3 3 _ c.in_ok-shared.shared c.in_ok-shared.first opened.0 opened.1 2 (lit≤ tt) (lit≤ tt))
 
 pub split-requires-2-clause-part : goal.split-requires-2-clause-part
 split-requires-2-clause-part g c =
     let opened = c.in_ok-shared.ensures.opened in
     first_held c.split.new.node 3
     (first_without c.in_ok-shared.first c.split.new.node 2 c.in_ok-second.ensures.parted.1 3 (λ e. absurd (omega arith))
-    (first_fresh _ c.in_ok-shared.shared c.in_ok-shared.first opened.0 opened.1 3 (lit≤ tt) (lit≤ tt)))
+    (first_fresh 3 3 _ c.in_ok-shared.shared c.in_ok-shared.first opened.0 opened.1 3 (lit≤ tt) (lit≤ tt)))
 
 pub begin_first-before-requires-clause-first : goal.begin_first-before-requires-clause-first
 begin_first-before-requires-clause-first g c =
     let opened = c.in_ok-shared.ensures.opened in
     first_alone c.split.new.node c.in_ok-third.third 3 c.in_ok-third.ensures.parted.0
     (first_without c.in_ok-shared.first c.split.new.node 2 c.in_ok-second.ensures.parted.1 3 (λ e. absurd (omega arith))
-    (first_fresh _ c.in_ok-shared.shared c.in_ok-shared.first opened.0 opened.1 3 (lit≤ tt) (lit≤ tt)))
+    (first_fresh 3 3 _ c.in_ok-shared.shared c.in_ok-shared.first opened.0 opened.1 3 (lit≤ tt) (lit≤ tt)))
 
 pub begin_first-writer-requires-clause-first : goal.begin_first-writer-requires-clause-first
 begin_first-writer-requires-clause-first g c =
     let opened = c.in_ok-shared.ensures.opened in
     first_without c.split.new.node c.split-2.new.node 3 c.in_ok-third.ensures.parted.1 1 (λ e. absurd (omega arith))
     (first_without c.in_ok-shared.first c.split.new.node 2 c.in_ok-second.ensures.parted.1 1 (λ e. absurd (omega arith))
-    (first_fresh _ c.in_ok-shared.shared c.in_ok-shared.first opened.0 opened.1 1 (lit≤ tt) (lit≤ tt)))
+    (first_fresh 3 3 _ c.in_ok-shared.shared c.in_ok-shared.first opened.0 opened.1 1 (lit≤ tt) (lit≤ tt)))
 
 pub begin_first-after-requires-clause-first : goal.begin_first-after-requires-clause-first
 begin_first-after-requires-clause-first g c =
     let opened = c.in_ok-shared.ensures.opened in
     first_alone c.in_ok-shared.first c.in_ok-second.second 2 c.in_ok-second.ensures.parted.0
-    (first_fresh _ c.in_ok-shared.shared c.in_ok-shared.first opened.0 opened.1 2 (lit≤ tt) (lit≤ tt))
+    (first_fresh 3 3 _ c.in_ok-shared.shared c.in_ok-shared.first opened.0 opened.1 2 (lit≤ tt) (lit≤ tt))

@@ -1,0 +1,2 @@
+mod PutTries
+mod FirstTurns
