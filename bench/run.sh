@@ -110,3 +110,5 @@ timed "mp_bench, 100 times 800 transactions over a shared table, by four threads
 timed "mp_bench, 100 times a table of 4,096 pages opened and closed" "$bench" tables 100
 timed "mp_bench, 100 times one page taken in turn 10,000 times, by one thread" "$bench" turns 100
 timed "mp_bench, 100 times one page taken in turn 10,000 times each, by four threads" "$bench" contend 100
+timed "mp_bench, 100 times one page changed in turn 5,000 times, by one thread" "$bench" changes 100
+timed "mp_bench, 100 times one page changed in turn 5,000 times each, by four threads" "$bench" rivals 100

@@ -1,8 +1,10 @@
 -- Where nothing failed and what the command reads is of its grammar, what is said is that it is done, or that there was no memory.
-use Rattle.std.proofs.Common.{◌≡◌, ◌≢◌, ◌∙◌, ◌≤◌, ◌⊎◌, ℕ, List, [], ◌∷◌, length, Option, Some, None, IsTrue, inl, inr, refl, sym, ap, subst, arith}
+use Rattle.std.proofs.Common.{◌≡◌, ◌≢◌, ◌∙◌, ◌≤◌, ◌⊎◌, ℕ, List, [], ◌∷◌, length, Option, Some, None, inl, inr, refl, sym, ap, subst, arith}
 use Rattle.std.proofs.lemmas.List.{take_all}
 use Rattle.std.specs.List.{AllByRecursion}
 use Rattle.mp_model.specs.declared.transcripts.Down.{Down}
+use Rattle.mp_model.specs.declared.transcripts.Mode.{Mode}
+use Rattle.mp_model.specs.declared.transcripts.Mode.TheVariants as mode
 use Rattle.mp_outside.specs.declared.disks.Disk.{Ghosts}
 use Rattle.mp_files.specs.declared.disks.Disks.{Disks}
 use Rattle.mp_files.specs.Nine.{LogRose, seen_at, as_read}
@@ -23,13 +25,13 @@ use Rattle.mp_cluster.specs.Runs.{transactions_of}
 use Rattle.mp_app.specs.declared.commands.Command.{Command}
 use Rattle.mp_app.specs.declared.commands.Command.TheVariants.{Session, Plain}
 use Rattle.mp_app.specs.declared.commands.PlainCommand.TheVariants.{Init, Recover, Dump, Logs, Gen}
-use Rattle.mp_app.specs.declared.commands.SessionCommand.TheVariants.{Step}
+use Rattle.mp_app.specs.declared.commands.SessionCommand.TheVariants.{Step, Run}
 use Rattle.mp_app.specs.declared.status.Status.{Status}
 use Rattle.mp_app.specs.declared.status.Status.TheVariants.{Done, Usage, Script as BadScript, Store, Stopped, Source, Sink, Disk, Memory}
 use Rattle.mp_app.specs.Calls.{SourceUse, ReadToItsEnd, ReadUpToTheBound}
 use Rattle.mp_app.specs.Commands.{Names}
-use Rattle.mp_app.specs.Complete.{MayStep, MayStepNumber, NothingRose, MayRecover, IsInOrder}
-use Rattle.mp_app.specs.Outcomes.{ReadsScript, RefusesItsScript, StepSays, DumpSays, InitSays, GenSays, IsOfContent, FaultsRose, RecoverSays, LogsSays, CommandSays, Says}
+use Rattle.mp_app.specs.Complete.{SourceMayRun, NumberMayRun, NothingRose, MayRecover, IsInOrder}
+use Rattle.mp_app.specs.Outcomes.{ReadsScript, RefusesItsScript, SessionSays, DumpSays, InitSays, GenSays, IsOfContent, FaultsRose, RecoverSays, LogsSays, CommandSays, Says}
 use Rattle.mp_app.proofs.NamedOnce.{named_once}
 use Rattle.mp_app.proofs.RunsBegin.{none_some, never_refused}
 
@@ -76,34 +78,34 @@ module _ {D : Type 0} (g : Ghosts D) (source : SourceUse) (sink sink_after : ℕ
   nobody_down [] failed some = some refl
   nobody_down (down ∷ downs) failed some = nothing.no_log down.by failed.0
 
-  step_answered : MayStep g source.left old → (status : Status) (text : List ℕ) → StepSays g None source old new status text → IsAnswered status
-  step_answered may Done text says = inl refl
-  step_answered may Usage text says = absurd says
-  step_answered may BadScript text says = absurd (not_refused source text may.bytes may.script may.told may.spelled says)
-  step_answered may Store text says =
+  source_answered : (in_mode : Mode) → SourceMayRun g source.left old → (status : Status) (text : List ℕ) → SessionSays g in_mode None source old new status text → IsAnswered status
+  source_answered in_mode may Done text says = inl refl
+  source_answered in_mode may Usage text says = absurd says
+  source_answered in_mode may BadScript text says = absurd (not_refused source text may.bytes may.script may.told may.spelled says)
+  source_answered in_mode may Store text says =
       let begins = subst (MayBegin (as_read g old)) (same_begins source may.bytes may.script says.script may.told may.spelled says.its) may.begins in
       absurd (never_refused (as_read g old) (transactions_of says.script) begins says.refusal says.content (says.first may.disks_told))
-  step_answered may Stopped text says =
+  source_answered in_mode may Stopped text says =
       let answered = says.answered in
       absurd (nobody_down answered.transcript.downs.items answered.run.failed answered.run.downs)
-  step_answered may Source text says = absurd (nothing.no_source says.0)
-  step_answered may Sink text says = absurd says
-  step_answered may Disk text says = absurd (no_faults_rose says.names.fault says.names.rose)
-  step_answered may Memory text says = inr refl
+  source_answered in_mode may Source text says = absurd (nothing.no_source says.0)
+  source_answered in_mode may Sink text says = absurd says
+  source_answered in_mode may Disk text says = absurd (no_faults_rose says.names.fault says.names.rose)
+  source_answered in_mode may Memory text says = inr refl
 
-  number_answered : (number : ℕ) → MayStepNumber g number old → (status : Status) (text : List ℕ) → StepSays g (Some number) source old new status text → IsAnswered status
-  number_answered number may Done text says = inl refl
-  number_answered number may Usage text says = absurd says
-  number_answered number may BadScript text says = absurd says
-  number_answered number may Store text says =
+  number_answered : (in_mode : Mode) (number : ℕ) → NumberMayRun g number old → (status : Status) (text : List ℕ) → SessionSays g in_mode (Some number) source old new status text → IsAnswered status
+  number_answered in_mode number may Done text says = inl refl
+  number_answered in_mode number may Usage text says = absurd says
+  number_answered in_mode number may BadScript text says = absurd says
+  number_answered in_mode number may Store text says =
       absurd (never_refused (as_read g old) (transactions_of says.script) (may.begins says.script says.its) says.refusal says.content (says.first may.disks_told))
-  number_answered number may Stopped text says =
+  number_answered in_mode number may Stopped text says =
       let answered = says.answered in
       absurd (nobody_down answered.transcript.downs.items answered.run.failed answered.run.downs)
-  number_answered number may Source text says = absurd says
-  number_answered number may Sink text says = absurd says
-  number_answered number may Disk text says = absurd (no_faults_rose says.names.fault says.names.rose)
-  number_answered number may Memory text says = inr refl
+  number_answered in_mode number may Source text says = absurd says
+  number_answered in_mode number may Sink text says = absurd says
+  number_answered in_mode number may Disk text says = absurd (no_faults_rose says.names.fault says.names.rose)
+  number_answered in_mode number may Memory text says = inr refl
 
   dump_answered : IsInOrder g (Plain Dump) source old → (status : Status) (text : List ℕ) → DumpSays g old.store new.store status text → IsAnswered status
   dump_answered order Done text says = inl refl
@@ -174,8 +176,10 @@ module _ {D : Type 0} (g : Ghosts D) (source : SourceUse) (sink sink_after : ℕ
   recover_answered may Memory text says = inr refl
 
   command_answered : (command : Command) → IsInOrder g command source old → (status : Status) (text : List ℕ) → CommandSays g command source old new status text → IsAnswered status
-  command_answered (Session (Step None)) order = step_answered order
-  command_answered (Session (Step (Some number))) order = number_answered number order
+  command_answered (Session (Step None)) order = source_answered mode.Step order
+  command_answered (Session (Step (Some number))) order = number_answered mode.Step number order
+  command_answered (Session (Run None)) order = source_answered mode.Run order
+  command_answered (Session (Run (Some number))) order = number_answered mode.Run number order
   command_answered (Plain Init) order = init_answered
   command_answered (Plain Recover) order = recover_answered order
   command_answered (Plain Dump) order = dump_answered order

@@ -1,5 +1,5 @@
 -- The words of one command are no other's.
-use Rattle.std.proofs.Common.{◌≡◌, ◌∙◌, ◌==◌, if◌then◌else◌, ℕ, List, [], ◌∷◌, Option, Some, None, refl, sym, ap}
+use Rattle.std.proofs.Common.{◌≡◌, ◌∙◌, ◌==◌, ◌+◌, if◌then◌else◌, ℕ, List, [], ◌∷◌, length, Option, Some, None, refl, sym, ap}
 use Rattle.std.specs.Str.Parse.{digits_value}
 use Rattle.std.proofs.lemmas.Fmt.{decimal_is_IsNumeral}
 use Rattle.mp_app.specs.declared.commands.Command.{Command}
@@ -7,14 +7,14 @@ use Rattle.mp_app.specs.declared.commands.Command.TheVariants.{Session, Plain}
 use Rattle.mp_app.specs.declared.commands.PlainCommand.{PlainCommand}
 use Rattle.mp_app.specs.declared.commands.PlainCommand.TheVariants.{Init, Recover, Dump, Logs, Gen}
 use Rattle.mp_app.specs.declared.commands.SessionCommand.{SessionCommand}
-use Rattle.mp_app.specs.declared.commands.SessionCommand.TheVariants.{Step}
+use Rattle.mp_app.specs.declared.commands.SessionCommand.TheVariants.{Step, Run}
 use Rattle.mp_app.specs.Commands.{words_of, HasItsNumber, Names}
 
--- the first letter of the first word
+-- the first letter of the first word, and how many come behind it, summed up
 letter : List (List ℕ) → ℕ
 letter [] = 0
 letter ([] ∷ words) = 0
-letter ((c ∷ cs) ∷ words) = c
+letter ((c ∷ cs) ∷ words) = c + length cs
 
 -- the number that the second word is
 number_in : List (List ℕ) → Option ℕ
@@ -26,14 +26,17 @@ gen_of : Option ℕ → Command
 gen_of None = Plain Logs
 gen_of (Some number) = Plain (Gen number)
 
--- the command with a first letter and a number
+-- the command with such a sum and a number
 command_by : ℕ → Option ℕ → Command
-command_by c number = if c == 115 then Session (Step number) else (if c == 105 then Plain Init else (if c == 114 then Plain Recover else (if c == 100 then Plain Dump else (if c == 108 then Plain Logs else gen_of number))))
+command_by c number = if c == 118 then Session (Step number) else (if c == 116 then Session (Run number) else (if c == 108 then Plain Init
+    else (if c == 120 then Plain Recover else (if c == 103 then Plain Dump else (if c == 111 then Plain Logs else gen_of number)))))
 
 by_words : (command : Command) → HasItsNumber command → command_by (letter (words_of command)) (number_in (words_of command)) ≡ command
 unfolding letter number_in gen_of command_by
 by_words (Session (Step None)) has = refl
 by_words (Session (Step (Some number))) has = ap (λ n. Session (Step (Some n))) (decimal_is_IsNumeral number has).1
+by_words (Session (Run None)) has = refl
+by_words (Session (Run (Some number))) has = ap (λ n. Session (Run (Some n))) (decimal_is_IsNumeral number has).1
 by_words (Plain Init) has = refl
 by_words (Plain Recover) has = refl
 by_words (Plain Dump) has = refl
@@ -50,10 +53,6 @@ plain_of (Plain command) = command
 pub plain_once : (words : List (List ℕ)) (one other : PlainCommand) → Names words (Plain one) → Names words (Plain other) → one ≡ other
 unfolding plain_of
 plain_once words one other is is_too = ap plain_of {x = Plain one} {y = Plain other} (named_once words (Plain one) (Plain other) is is_too)
-
--- a command of sessions is a `step`
-pub is_step : (words : List (List ℕ)) (command : SessionCommand) → Names words (Session command) → ((number : Option ℕ) → Names words (Session (Step number)) → ⊥) → ⊥
-is_step words (Step number) is none = none number is
 
 differ : (one : SessionCommand) (other : PlainCommand) → Session one ≡ Plain other → ⊥
 differ one other e = cc

@@ -1,6 +1,7 @@
 -- What the bytes that were read come to is what the call says, and so is what a number's script does.
 use Rattle.std.proofs.Common.{ℕ, ◌≤◌, List, [], length, Option, Some, None, refl, ap, ◌∙◌, length-take, arith}
 use Rattle.std.proofs.lemmas.List.{take_all, drop_all}
+use Rattle.mp_model.specs.declared.transcripts.Mode.{Mode}
 use Rattle.mp_outside.specs.Sources.{ReadsUpTo, TakesUpTo}
 use Rattle.mp_outside.specs.declared.disks.Disk.{Ghosts}
 use Rattle.mp_files.specs.declared.disks.Disks.{Disks}
@@ -11,7 +12,7 @@ use Rattle.mp_script.specs.declared.statements.Script.{Script}
 use Rattle.mp_script.specs.Spelling.{Spells}
 use Rattle.mp_app.specs.declared.output.Output.{Output}
 use Rattle.mp_app.specs.Answered.{BytesSay, ScriptSays}
-use Rattle.mp_app.specs.Outcomes.{ReadsScript, IsItsScript, StepSays}
+use Rattle.mp_app.specs.Outcomes.{ReadsScript, IsItsScript, SessionSays}
 use Rattle.mp_app.specs.Printed.{text_of, Prints}
 use Rattle.mp_app.specs.Texts.{no_memory_text}
 
@@ -34,10 +35,10 @@ pub nothing_taken : (left : Option (List ℕ)) → TakesUpTo 1048577 left left
 nothing_taken None = ([], omega arith, tt)
 nothing_taken (Some input) = ([], omega arith, refl)
 
-module _ {D : Type 0} (g : Ghosts D) where
+module _ {D : Type 0} (g : Ghosts D) (in_mode : Mode) where
   -- what a script comes to is said of the command whose script it is
   pub says_of_script : (source : SourceUse) (number : Option ℕ) (script : Script) (old new : Disks D) (status : Status) (text : List ℕ) → IsItsScript number source script
-      → ScriptSays g number script old new status text → StepSays g number source old new status text
+      → ScriptSays g in_mode number script old new status text → SessionSays g in_mode number source old new status text
   says_of_script source number script old new Done text its says = record { script = script; its = its; began = says.0; answered = says.1 }
   says_of_script source number script old new Usage text its says = absurd says
   says_of_script source number script old new BadScript text its says = absurd says
@@ -62,7 +63,7 @@ module _ {D : Type 0} (g : Ghosts D) where
 
   -- the status and the text go with the source
   pub says_from_bytes : (source : SourceUse) (bytes : List ℕ) (old new : Disks D) (status : Status) (text : List ℕ) → ReadsUpTo 1048577 source.left source.still_left bytes
-      → BytesSay g bytes old new status text → StepSays g None source old new status text
+      → BytesSay g in_mode bytes old new status text → SessionSays g in_mode None source old new status text
   says_from_bytes source bytes old new Done text reads says = says_of_script source None says.0 old new Done text (its_bytes source bytes says.0 reads says.1) says.2
   says_from_bytes source bytes old new Usage text reads says = absurd says.2
   says_from_bytes source bytes old new BadScript text reads says = record { bytes = bytes; read = bound_read source.left source.still_left bytes reads; refused = says }
@@ -75,5 +76,5 @@ module _ {D : Type 0} (g : Ghosts D) where
 
   -- there was no memory
   pub says_no_memory : (source : SourceUse) (number : Option ℕ) (disks : Disks D) (output : Output) → Prints Memory no_memory_text output
-      → StepSays g number source disks disks output.status (text_of output.printed)
+      → SessionSays g in_mode number source disks disks output.status (text_of output.printed)
   says_no_memory source number disks output prints = rw prints.0 prints.1

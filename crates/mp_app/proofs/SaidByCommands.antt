@@ -1,5 +1,7 @@
 -- What a command says is what the call says whose words name it.
 use Rattle.std.proofs.Common.{◌≡◌, ◌≢◌, ◌∙◌, ℕ, List, Option, inl, inr, Err, sym, subst}
+use Rattle.mp_model.specs.declared.transcripts.Mode.{Mode}
+use Rattle.mp_model.specs.declared.transcripts.Mode.TheVariants as mode
 use Rattle.mp_outside.specs.declared.disks.Disk.{Ghosts}
 use Rattle.mp_files.specs.declared.disks.Disks.{Disks}
 use Rattle.mp_files.specs.Nine.{KeptNine}
@@ -10,15 +12,15 @@ use Rattle.mp_app.specs.declared.commands.Command.TheVariants.{Session, Plain}
 use Rattle.mp_app.specs.declared.commands.PlainCommand.{PlainCommand}
 use Rattle.mp_app.specs.declared.commands.PlainCommand.TheVariants.{Init, Recover, Dump, Logs, Gen}
 use Rattle.mp_app.specs.declared.commands.SessionCommand.{SessionCommand}
-use Rattle.mp_app.specs.declared.commands.SessionCommand.TheVariants.{Step}
+use Rattle.mp_app.specs.declared.commands.SessionCommand.TheVariants.{Step, Run}
 use Rattle.mp_app.specs.declared.commands.WordsRefusal.{WordsRefusal}
 use Rattle.mp_app.specs.declared.commands.WordsRefusal.TheVariants.{Usage, Memory}
 use Rattle.mp_app.specs.declared.output.Output.{Output}
 use Rattle.mp_app.specs.declared.status.Status.{Status}
 use Rattle.mp_app.specs.declared.status.Status.TheVariants.{Done, Usage as UsageStatus, Store, Sink, Memory as NoMemory}
 use Rattle.mp_app.specs.Calls.{SourceUse}
-use Rattle.mp_app.specs.Commands.{Names, ReadsWords}
-use Rattle.mp_app.specs.Outcomes.{StepSays, InitSays, Recovers, RecoverSays, CommandSays, Says, Writes, WritesFront}
+use Rattle.mp_app.specs.Commands.{command_in, Names, ReadsWords}
+use Rattle.mp_app.specs.Outcomes.{SessionSays, InitSays, Recovers, RecoverSays, CommandSays, Says, Writes, WritesFront}
 use Rattle.mp_app.specs.Printed.{text_of, PrintsWordsRefusal}
 use Rattle.mp_app.specs.Texts.{no_memory_text}
 
@@ -40,12 +42,20 @@ store_no_sink status store sink = differ (sym store ∙ sink)
     differ e = cc
 
 module _ {D : Type 0} (g : Ghosts D) where
+  -- what is said of a command that runs a script is so of its mode
+  pub said_in : (in_mode : Mode) (number : Option ℕ) (source : SourceUse) (old new : Disks D) (status : Status) (text : List ℕ)
+      → CommandSays g (Session (command_in in_mode number)) source old new status text → SessionSays g in_mode number source old new status text
+  said_in mode.Step number source old new status text says = says
+  said_in mode.Run number source old new status text says = says
+
   -- where what the disks hold is refused for a run, they are as they were
-  pub step_kept : (command : SessionCommand) (source : SourceUse) (old new : Disks D) (status : Status) (text : List ℕ)
+  pub run_kept : (command : SessionCommand) (source : SourceUse) (old new : Disks D) (status : Status) (text : List ℕ)
       → CommandSays g (Session command) source old new status text → status ≡ Store → KeptNine g old new
-  step_kept (Step number) source old new status text says is =
-      let at_store : StepSays g number source old new Store text = subst (λ s. StepSays g number source old new s text) is says in
-      at_store.kept
+  run_kept command source old new status text says is = at_store command (subst (λ s. CommandSays g (Session command) source old new s text) is says)
+    where
+      at_store : (command : SessionCommand) → CommandSays g (Session command) source old new Store text → KeptNine g old new
+      at_store (Step number) refuses = refuses.kept
+      at_store (Run number) refuses = refuses.kept
 
   pub front_said : (words : List (List ℕ)) (source : SourceUse) (old new : Disks D) (command : Command) (before after : Option (List ℕ))
       → Names words command → WritesFront (CommandSays g command source old new) before after → WritesFront (Says g words source old new) before after
@@ -57,6 +67,7 @@ module _ {D : Type 0} (g : Ghosts D) where
 
   memory_said : (command : Command) (source : SourceUse) (disks : Disks D) (text : List ℕ) → text ≡ no_memory_text → CommandSays g command source disks disks NoMemory text
   memory_said (Session (Step number)) source disks text is = is
+  memory_said (Session (Run number)) source disks text is = is
   memory_said (Plain Init) source disks text is = is
   memory_said (Plain Recover) source disks text is = record { stands = inl (KeptNine-refl g disks); printed = is }
   memory_said (Plain Dump) source disks text is = is
@@ -71,6 +82,7 @@ module _ {D : Type 0} (g : Ghosts D) where
   -- no command ends with the sink's status before its text is written
   sink_said : (command : Command) (source : SourceUse) (old new : Disks D) (text : List ℕ) → CommandSays g command source old new Sink text → ⊥
   sink_said (Session (Step number)) source old new text says = says
+  sink_said (Session (Run number)) source old new text says = says
   sink_said (Plain Init) source old new text says = says
   sink_said (Plain Recover) source old new text says = says
   sink_said (Plain Dump) source old new text says = says

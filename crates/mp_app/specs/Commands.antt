@@ -1,16 +1,26 @@
 -- The commands, and the words that name them.
-use Rattle.std.specs.Prelude.{◌≡◌, ◌<◌, ◌^◌, ℕ, List, [], ◌∷◌, codes, decimal, Some, None, Result, Ok, Err}
+use Rattle.std.specs.Prelude.{◌≡◌, ◌<◌, ◌^◌, ℕ, List, [], ◌∷◌, codes, decimal, Option, Some, None, Result, Ok, Err}
+use Rattle.mp_model.specs.declared.transcripts.Mode.{Mode}
+use Rattle.mp_model.specs.declared.transcripts.Mode.TheVariants as mode
 use Rattle.mp_app.specs.declared.commands.Command.{Command}
 use Rattle.mp_app.specs.declared.commands.Command.TheVariants.{Session, Plain}
 use Rattle.mp_app.specs.declared.commands.PlainCommand.TheVariants.{Init, Recover, Dump, Logs, Gen}
-use Rattle.mp_app.specs.declared.commands.SessionCommand.TheVariants.{Step}
+use Rattle.mp_app.specs.declared.commands.SessionCommand.{SessionCommand}
+use Rattle.mp_app.specs.declared.commands.SessionCommand.TheVariants.{Step, Run}
 use Rattle.mp_app.specs.declared.commands.WordsRefusal.{WordsRefusal}
 use Rattle.mp_app.specs.declared.commands.WordsRefusal.TheVariants.{Usage, Memory}
+
+-- the command that runs in a mode the script that is read, or that of a number
+abbrev pub command_in : Mode → Option ℕ → SessionCommand
+command_in mode.Step number = Step number
+command_in mode.Run number = Run number
 
 -- the words of a command, which may be several
 abbrev pub words_of : Command → List (List ℕ)
 words_of (Session (Step None)) = codes "step" ∷ []
 words_of (Session (Step (Some number))) = codes "step" ∷ decimal number ∷ []
+words_of (Session (Run None)) = codes "run" ∷ []
+words_of (Session (Run (Some number))) = codes "run" ∷ decimal number ∷ []
 words_of (Plain Init) = codes "init" ∷ []
 words_of (Plain Recover) = codes "recover" ∷ []
 words_of (Plain Dump) = codes "dump" ∷ []
@@ -20,6 +30,7 @@ words_of (Plain (Gen number)) = codes "gen" ∷ decimal number ∷ []
 -- a number is 0 to 2^64 - 1
 abbrev pub HasItsNumber : Command → Type 0
 HasItsNumber (Session (Step (Some number))) = number < 2 ^ 64
+HasItsNumber (Session (Run (Some number))) = number < 2 ^ 64
 HasItsNumber (Plain (Gen number)) = number < 2 ^ 64
 HasItsNumber command = Unit {0}
 

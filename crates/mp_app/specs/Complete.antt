@@ -15,7 +15,7 @@ use Rattle.mp_store.specs.StoreFiles.{store_fault}
 use Rattle.mp_app.specs.declared.commands.Command.{Command}
 use Rattle.mp_app.specs.declared.commands.Command.TheVariants.{Session, Plain}
 use Rattle.mp_app.specs.declared.commands.PlainCommand.TheVariants.{Init, Recover, Dump, Logs, Gen}
-use Rattle.mp_app.specs.declared.commands.SessionCommand.TheVariants.{Step}
+use Rattle.mp_app.specs.declared.commands.SessionCommand.TheVariants.{Step, Run}
 use Rattle.mp_app.specs.Calls.{SourceUse}
 
 module _ {D : Type 0} (g : Ghosts D) where
@@ -34,7 +34,7 @@ module _ {D : Type 0} (g : Ghosts D) where
     pub not_spent : IsSpent (as_read g disks) → ⊥
 
   -- what the source has left is told, and spells a script that may begin over nine disks that tell
-  pub record MayStep (left : Option (List ℕ)) (disks : Disks D) : Type 0 where
+  pub record SourceMayRun (left : Option (List ℕ)) (disks : Disks D) : Type 0 where
     pub bytes : List ℕ
     pub script : Script
     pub told : left ≡ Some bytes
@@ -43,14 +43,16 @@ module _ {D : Type 0} (g : Ghosts D) where
     pub begins : MayBegin (as_read g disks) (transactions_of script)
 
   -- the script of a number may begin over nine disks that tell
-  pub record MayStepNumber (number : ℕ) (disks : Disks D) : Type 0 where
+  pub record NumberMayRun (number : ℕ) (disks : Disks D) : Type 0 where
     pub disks_told : AllTell g disks
     pub begins : (script : Script) → IsGenerated number script → MayBegin (as_read g disks) (transactions_of script)
 
   -- what a command reads is of its grammar; `init` and `gen` read nothing
   abbrev pub IsInOrder : Command → SourceUse → Disks D → Type 0
-  IsInOrder (Session (Step None)) source disks = MayStep source.left disks
-  IsInOrder (Session (Step (Some number))) source disks = MayStepNumber number disks
+  IsInOrder (Session (Step None)) source disks = SourceMayRun source.left disks
+  IsInOrder (Session (Step (Some number))) source disks = NumberMayRun number disks
+  IsInOrder (Session (Run None)) source disks = SourceMayRun source.left disks
+  IsInOrder (Session (Run (Some number))) source disks = NumberMayRun number disks
   IsInOrder (Plain Init) source disks = Unit {0}
   IsInOrder (Plain Recover) source disks = MayRecover disks
   IsInOrder (Plain Dump) source disks = IsTrue (g.tells disks.store) × (store_fault (g.seen disks.store) ≡ None)

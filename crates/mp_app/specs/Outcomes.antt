@@ -38,7 +38,7 @@ use Rattle.mp_store.specs.StoreFiles.{store_fault}
 use Rattle.mp_app.specs.declared.commands.Command.{Command}
 use Rattle.mp_app.specs.declared.commands.Command.TheVariants.{Session, Plain}
 use Rattle.mp_app.specs.declared.commands.PlainCommand.TheVariants.{Init, Recover, Dump, Logs, Gen}
-use Rattle.mp_app.specs.declared.commands.SessionCommand.TheVariants.{Step}
+use Rattle.mp_app.specs.declared.commands.SessionCommand.TheVariants.{Step, Run}
 use Rattle.mp_app.specs.Calls.{SourceUse, ReadToItsEnd, ReadUpToTheBound}
 use Rattle.mp_app.specs.Commands.{Names, NoCommand}
 use Rattle.mp_app.specs.Recoveries.{recovered_text}
@@ -234,12 +234,13 @@ module _ {D : Type 0} (g : Ghosts D) where
     pub run : IsRunOf in_mode AreSo old new script transcript
     pub printed : text ≡ run_text number script transcript
 
-  -- the script that was read to the source's end, or that of the number, may begin over what the disks held, and it is answered
-  pub record AnswersItsScript (number : Option ℕ) (AreSo : List Down → Type 0) (source : SourceUse) (old new : Disks D) (text : List ℕ) : Type 0 where
+  -- the script that was read to the source's end, or that of the number, may begin over what the disks held, and it is
+  -- answered in the mode
+  pub record AnswersItsScript (in_mode : Mode) (number : Option ℕ) (AreSo : List Down → Type 0) (source : SourceUse) (old new : Disks D) (text : List ℕ) : Type 0 where
     pub script : Script
     pub its : IsItsScript number source script
     pub began : AllTell g old → MayBegin (as_read g old) (transactions_of script)
-    pub answered : PrintsLegal number mode.Step AreSo old new script text
+    pub answered : PrintsLegal number in_mode AreSo old new script text
 
   -- what the disks hold is refused for a script's run for what is printed, which comes first, and they are left as they were
   pub record RefusesTheRun (number : Option ℕ) (source : SourceUse) (old new : Disks D) (text : List ℕ) : Type 0 where
@@ -256,20 +257,21 @@ module _ {D : Type 0} (g : Ghosts D) where
     pub names : NamesFailed old new text
     pub kept : KeptNine g old new
 
-  -- when `step`, with a number or without, ends with a status, and its text; with no other status it ends
-  abbrev pub StepSays : Option ℕ → SourceUse → Disks D → Disks D → Status → List ℕ → Type 0
-  StepSays number source old new Done text = AnswersItsScript number NoneIsDown source old new text
-  StepSays number source old new Stopped text = AnswersItsScript number SomeIsDown source old new text
-  StepSays number source old new BadScript text = RefusesAScript number source text
-  StepSays number source old new Store text = RefusesTheRun number source old new text
-  StepSays number source old new Source text = FailsToRead number source text
-  StepSays number source old new Disk text = FailsToOpen old new text
-  StepSays number source old new Memory text = text ≡ no_memory_text
-  StepSays number source old new _ text = ⊥
+  -- when `step` or `run`, with a number or without, ends with a status, and its text; with no other status it ends
+  abbrev pub SessionSays : Mode → Option ℕ → SourceUse → Disks D → Disks D → Status → List ℕ → Type 0
+  SessionSays in_mode number source old new Done text = AnswersItsScript in_mode number NoneIsDown source old new text
+  SessionSays in_mode number source old new Stopped text = AnswersItsScript in_mode number SomeIsDown source old new text
+  SessionSays in_mode number source old new BadScript text = RefusesAScript number source text
+  SessionSays in_mode number source old new Store text = RefusesTheRun number source old new text
+  SessionSays in_mode number source old new Source text = FailsToRead number source text
+  SessionSays in_mode number source old new Disk text = FailsToOpen old new text
+  SessionSays in_mode number source old new Memory text = text ≡ no_memory_text
+  SessionSays in_mode number source old new _ text = ⊥
 
   -- when a command ends with a status, and its text
   abbrev pub CommandSays : Command → SourceUse → Disks D → Disks D → Status → List ℕ → Type 0
-  CommandSays (Session (Step number)) source old new = StepSays number source old new
+  CommandSays (Session (Step number)) source old new = SessionSays mode.Step number source old new
+  CommandSays (Session (Run number)) source old new = SessionSays mode.Run number source old new
   CommandSays (Plain Init) source old new = InitSays old new
   CommandSays (Plain Recover) source old new = RecoverSays old new
   CommandSays (Plain Dump) source old new = DumpSays old.store new.store

@@ -3,8 +3,11 @@
 /// A command that runs a script's sessions.
 #[derive(Clone, Copy, Debug, PartialEq, Eq)]
 pub enum SessionCommand {
-    /// `step`: reads a script and answers it; `step N`: answers the script of the number N, and prints the summary.
+    /// `step`: reads a script and answers it, on one thread; `step N`: answers the script of the number N, and prints the
+    /// summary.
     Step(Option<u64>),
+    /// `run` and `run N`: the same, each primary on a thread of its own.
+    Run(Option<u64>),
 }
 
 /// A command that runs no session.

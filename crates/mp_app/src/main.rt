@@ -1,5 +1,5 @@
 //! The program `mp`: several primaries over one page store. It makes a store with its logs, runs scripts of several
-//! sessions on one thread, recovers after a crash, and prints the store's pages and the logs' mtrs.
+//! sessions, on one thread or each primary on its own, recovers after a crash, and prints the store's pages and the logs' mtrs.
 #![tactic(auto)]
 
 ghost use Rattle.std.specs.Prelude.{◌≢◌, IfErr};
@@ -20,6 +20,7 @@ mod words;
 
 pub use commands::{Command, PlainCommand, SessionCommand, WordsRefusal};
 pub use examples::law_recovered_text;
+use mp_gates::OpenGate;
 use mp_outside::{StdSink, StdSource};
 use opening::open_disks;
 use output::{Output, print};
@@ -28,6 +29,7 @@ pub use session::session_call;
 pub use status::Status;
 use std::process::ExitCode;
 use std::sync::Wait;
+use std::thread::Threads;
 use std::{env, io};
 pub use top::top;
 use words::read_words;
@@ -41,16 +43,30 @@ fn main(rt: HostRuntime) -> ExitCode {
     ExitCode::from(status.code())
 }
 
-// Does what the words ask for, over the files of the current folder; a run waits by `waits`. Words that are no command
-// make no files.
-fn call<R: Wait>(waits: &R, rt: HostRuntime, words: &[String], sink: &mut StdSink) -> Status {
+// Does what the words ask for, over the files of the current folder; a run has its threads of `threads`, and waits by it. Words
+// that are no command make no files.
+fn call<R: Threads + Wait + Sync>(
+    threads: &R,
+    rt: HostRuntime,
+    words: &[String],
+    sink: &mut StdSink,
+) -> Status {
     if let Err(refusal) = read_words(rt.alloc(), words) {
         return print(&Output::words_refusal(refusal), sink);
     }
     match open_disks(rt) {
         Ok(mut disks) => {
             let mut source = StdSource::new(rt);
-            top(waits, rt.alloc(), words, &mut source, sink, &mut disks)
+            let alloc = rt.alloc();
+            top(
+                threads,
+                alloc,
+                words,
+                &mut source,
+                sink,
+                &mut disks,
+                &OpenGate,
+            )
         }
         Err(output) => print(&output, sink),
     }

@@ -4,17 +4,20 @@ mod log_bytes;
 mod numbers;
 mod recovery;
 mod runs;
+mod threads;
 
 ghost use Rattle.std.specs.Prelude.{◌≡◌, IfOk, length};
 
 use crate::status::Status;
 use crate::top::top;
 use mp_files::Disks;
+use mp_gates::{Gate, OpenGate};
 use mp_model::Memory;
 use mp_outside::{Disk, MemDisk, MemSink, MemSource};
 use std::alloc::Global;
 use std::sync::Wait;
 use std::test::Fail;
+use std::thread::Threads;
 
 const HEAD: &str = "primaries 1\nsession s1 on 1\n";
 
@@ -67,13 +70,14 @@ impl Ran {
 }
 
 // Calls the program. Of all that it promises the tests need that eight logs stand.
-fn call<R: Wait>(
+fn call<R: Threads + Wait + Sync, G: Gate + Sync>(
     rt: &R,
     alloc: Global,
     words: &[&str],
     source: &mut MemSource,
     sink: &mut MemSink,
     disks: &mut Disks<MemDisk>,
+    gate: &G,
 ) -> Result<Status, Memory>
     requires { length disks.old.logs.items ≡ 8 }
     ensures { length disks.new.logs.items ≡ 8 }
@@ -82,11 +86,11 @@ fn call<R: Wait>(
     for word in words {
         all.push(String::from_str(alloc, word)?)?;
     }
-    Ok(top(rt, alloc, &all, source, sink, disks))
+    Ok(top(rt, alloc, &all, source, sink, disks, gate))
 }
 
 // A call with this input, where these calls of the source and of the sink are to fail.
-fn run_failing<R: Wait>(
+fn run_failing<R: Threads + Wait + Sync>(
     rt: &R,
     alloc: Global,
     words: &[&str],
@@ -100,11 +104,11 @@ fn run_failing<R: Wait>(
 {
     let mut source = MemSource::new(alloc, script, source_fails)?;
     let mut sink = MemSink::new(alloc, 100_000, sink_fails)?;
-    let status = call(rt, alloc, words, &mut source, &mut sink, disks)?;
+    let status = call(rt, alloc, words, &mut source, &mut sink, disks, &OpenGate)?;
     Ok(Ran { status, sink })
 }
 
-fn run<R: Wait>(
+fn run<R: Threads + Wait + Sync>(
     rt: &R,
     alloc: Global,
     words: &[&str],
@@ -136,7 +140,7 @@ fn no_store(alloc: Global, fails: &[u32]) -> Result<Disks<MemDisk>, Memory>
 }
 
 // A fresh store, and eight logs without batches.
-fn fresh<R: Wait>(rt: &R, alloc: Global) -> Result<Disks<MemDisk>, Memory>
+fn fresh<R: Threads + Wait + Sync>(rt: &R, alloc: Global) -> Result<Disks<MemDisk>, Memory>
     ensures { IfOk result (λ disks. length disks.logs.items ≡ 8) }
 {
     let store = MemDisk::new(alloc, &[], STORE, &[])?;
@@ -226,6 +230,8 @@ fn refusals_print_their_text(rt: HostRuntime) -> Result<(), Fail> {
         &[],
         &["gen", "05"],
         &["step", "05"],
+        &["run", "05"],
+        &["run", "1", "2"],
         &["gen", "-1"],
         &["gen", "18446744073709551616"],
         &["help"],
@@ -241,7 +247,7 @@ fn refusals_print_their_text(rt: HostRuntime) -> Result<(), Fail> {
 }
 
 // Whether a script is refused with this fault and line.
-fn is_refused<R: Wait>(
+fn is_refused<R: Threads + Wait + Sync>(
     rt: &R,
     alloc: Global,
     script: &[u8],
@@ -315,6 +321,8 @@ fn faults_give_their_status(rt: HostRuntime) -> Result<(), Fail> {
         ),
         ("step", &[], Status::Store, "refused store place 0\n"),
         ("step", &[1], Status::Disk, "fault disk store\n"),
+        ("run", &[], Status::Store, "refused store place 0\n"),
+        ("run", &[1], Status::Disk, "fault disk store\n"),
         ("dump", &[1], Status::Disk, "fault disk store\n"),
         ("init", &[1], Status::Disk, "fault disk store\n"),
     ];

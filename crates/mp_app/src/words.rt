@@ -42,6 +42,8 @@ fn command_named(word: &str) -> Option<Command>
 {
     if is_word(word, "step") {
         Some(Command::Session(SessionCommand::Step(None)))
+    } else if is_word(word, "run") {
+        Some(Command::Session(SessionCommand::Run(None)))
     } else if is_word(word, "init") {
         Some(Command::Plain(PlainCommand::Init))
     } else if is_word(word, "recover") {
@@ -63,6 +65,8 @@ fn command_numbered(word: &str, number: &str) -> Option<Command>
     let number = read_number(number)?;
     if is_word(word, "step") {
         Some(Command::Session(SessionCommand::Step(Some(number))))
+    } else if is_word(word, "run") {
+        Some(Command::Session(SessionCommand::Run(Some(number))))
     } else if is_word(word, "gen") {
         Some(Command::Plain(PlainCommand::Gen(number)))
     } else {

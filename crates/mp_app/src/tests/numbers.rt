@@ -8,7 +8,9 @@ use mp_files::Disks;
 use mp_model::Memory;
 use mp_outside::MemDisk;
 use std::alloc::Global;
+use std::sync::Wait;
 use std::test::Fail;
+use std::thread::Threads;
 
 // How the script of 42 begins: 42 is 10 above a multiple of 32, and round 1 goes on by 7.
 const GENERATED: &str =
@@ -38,15 +40,20 @@ fn give_room(alloc: Global, disks: &mut Disks<MemDisk>, place: usize) -> Result<
     Ok(())
 }
 
-// Four primaries run it.
-#[test]
-fn a_number_prints_its_summary(rt: HostRuntime) -> Result<(), Fail> {
-    let alloc = rt.alloc();
-    let mut disks = fresh(&rt, alloc)?;
+// Whether its run by a command prints the summary. Four primaries run it.
+fn is_summed<R: Threads + Wait + Sync>(rt: &R, alloc: Global, command: &str) -> Result<bool, Fail> {
+    let mut disks = fresh(rt, alloc)?;
     give_room(alloc, &mut disks, 0)?;
     give_room(alloc, &mut disks, 1)?;
     give_room(alloc, &mut disks, 2)?;
     give_room(alloc, &mut disks, 3)?;
-    assert!(rt; run(&rt, alloc, &["step", "42"], &[], &mut disks)?.is(Status::Done, SUMMED));
+    let ran = run(rt, alloc, &[command, "42"], &[], &mut disks)?;
+    Ok(ran.is(Status::Done, SUMMED))
+}
+
+#[test]
+fn a_number_prints_its_summary(rt: HostRuntime) -> Result<(), Fail> {
+    assert!(rt; is_summed(&rt, rt.alloc(), "step")?);
+    assert!(rt; is_summed(&rt, rt.alloc(), "run")?);
     Ok(())
 }

@@ -11,6 +11,7 @@ use mp_outside::{Disk, MemDisk};
 use std::alloc::Global;
 use std::sync::Wait;
 use std::test::Fail;
+use std::thread::Threads;
 
 /// The rows that the first transactions of primaries 1 and 2 put.
 const ROW_A: Version = Version {
@@ -87,7 +88,7 @@ fn filled(alloc: Global, bytes: &[u8], fails: &[u32]) -> Result<MemDisk, Memory>
 }
 
 // A fresh store, logs 1 and 2 as they are given, and six without batches.
-fn nine<R: Wait>(
+fn nine<R: Threads + Wait + Sync>(
     rt: &R,
     alloc: Global,
     first: &[u8],
@@ -101,7 +102,11 @@ fn nine<R: Wait>(
     Ok(disks)
 }
 
-fn recovered<R: Wait>(rt: &R, alloc: Global, disks: &mut Disks<MemDisk>) -> Result<Ran, Memory>
+fn recovered<R: Threads + Wait + Sync>(
+    rt: &R,
+    alloc: Global,
+    disks: &mut Disks<MemDisk>,
+) -> Result<Ran, Memory>
     requires { length disks.old.logs.items ≡ 8 }
     ensures { length disks.new.logs.items ≡ 8 }
 {
@@ -200,7 +205,11 @@ fn a_split_root_is_recovered(rt: HostRuntime) -> Result<(), Fail> {
 }
 
 // Both logs, the first on a disk that fails from a call on; and again, with that log on a whole disk.
-fn stopped<R: Wait>(rt: &R, alloc: Global, from: u32) -> Result<(Ran, Ran), Memory> {
+fn stopped<R: Threads + Wait + Sync>(
+    rt: &R,
+    alloc: Global,
+    from: u32,
+) -> Result<(Ran, Ran), Memory> {
     let first = first_log(alloc)?;
     let mut disks = nine(rt, alloc, &first, &second_log(alloc, true)?)?;
     let mut fails = Vec::new(alloc);

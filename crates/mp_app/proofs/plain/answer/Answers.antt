@@ -1,6 +1,6 @@
 -- Where the logs alone were read, all nine disks are still there.
 use Rattle.std.proofs.Common.{refl}
-use Rattle.mp_files.proofs.Nines.{KeptNine-refl, KeptNine-logs, KeptNine-still, StillNine-refl}
+use Rattle.mp_files.proofs.Nines.{KeptNine-logs, KeptNine-still}
 use Rattle.mp_app.proofs.plain.answer.Goals as goal
 
 pub returns-in-Logs-clause-nine : goal.returns-in-Logs-clause-nine

@@ -1,8 +1,7 @@
 -- The bytes that were read are those that are answered; where none were, the disks are left alone.
-use Rattle.mp_files.proofs.Nines.{KeptDisk-refl, StillNine-refl}
 use Rattle.mp_app.proofs.Reading.{says_from_bytes}
 use Rattle.mp_app.proofs.session.answer_source.Goals as goal
 
 pub returns-in-Ok-clause-says : goal.returns-in-Ok-clause-says
 returns-in-Ok-clause-says g c =
-    says_from_bytes g.D.Disk _ c.in-Ok.text.items c.args.disks.now c.answer_bytes.new.disks c.answer_bytes.result.status _ c.in-Ok.ensures.bytes (rw (← c.as_slice.ensures) c.answer_bytes.ensures.says)
+    says_from_bytes g.D.Disk c.args.mode _ c.in-Ok.text.items c.args.disks.now c.answer_bytes.new.disks c.answer_bytes.result.status _ c.in-Ok.ensures.bytes (rw (← c.as_slice.ensures) c.answer_bytes.ensures.says)

@@ -3,7 +3,7 @@ use Rattle.std.proofs.Common.{◌∙◌, sym}
 use Rattle.mp_app.specs.declared.commands.Command.TheVariants.{Session}
 use Rattle.mp_app.specs.Calls.{read_of}
 use Rattle.mp_app.specs.Printed.{text_of}
-use Rattle.mp_app.proofs.SaidByCommands.{never_sink, step_kept, store_no_sink}
+use Rattle.mp_app.proofs.SaidByCommands.{never_sink, run_kept, store_no_sink}
 use Rattle.mp_app.proofs.session.session_call.Goals as goal
 
 pub print-requires : goal.print-requires
@@ -19,5 +19,5 @@ returns-clause-cut g c = λ is. record {
 
 pub returns-clause-refused : goal.returns-clause-refused
 returns-clause-refused g c = λ refused.
-    step_kept g.D.Disk c.args.command.now (read_of g.S.Source c.args.source.now c.answer-output.new.source) c.args.disks.now c.answer-output.new.disks _ _ c.answer-output.ensures.says
+    run_kept g.D.Disk c.args.command.now (read_of g.S.Source c.args.source.now c.answer-output.new.source) c.args.disks.now c.answer-output.new.disks _ _ c.answer-output.ensures.says
     (sym (c.print.ensures.written (store_no_sink c.print.result refused)).0 ∙ refused)

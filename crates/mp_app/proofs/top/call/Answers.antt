@@ -1,5 +1,5 @@
 -- The words name the command that is called, and what it says is said; without one the disks are left alone.
-use Rattle.std.proofs.Common.{◌∙◌, map, string_bytes, refl, sym, subst}
+use Rattle.std.proofs.Common.{◌∙◌, map, string_bytes, sym, subst}
 use Rattle.mp_files.proofs.Nines.{KeptDisk-refl, KeptNine-refl, StillNine-refl}
 use Rattle.mp_outside.specs.Sources.{TakesUpTo}
 use Rattle.mp_app.specs.declared.commands.Command.TheVariants.{Session, Plain}
@@ -9,7 +9,7 @@ use Rattle.mp_app.specs.declared.commands.PlainCommand.TheVariants.{Init, Recove
 use Rattle.mp_app.specs.Commands.{Names}
 use Rattle.mp_app.specs.Calls.{read_of}
 use Rattle.mp_app.specs.Printed.{text_of}
-use Rattle.mp_app.proofs.NamedOnce.{is_step, plain_once, session_not_plain}
+use Rattle.mp_app.proofs.NamedOnce.{plain_once, session_not_plain}
 use Rattle.mp_app.proofs.Reading.{nothing_taken}
 use Rattle.mp_app.proofs.SaidByCommands.{front_said, whole_said, refusal_said, refusal_not_done, done_no_sink}
 use Rattle.mp_app.proofs.top.call.Goals as goal
@@ -42,11 +42,11 @@ returns-in-Err-clause-cut g c = λ is. record {
   written = c.print.ensures.cut is;
 }
 
--- the source is read by `step` without a number alone
+-- the source is read by a run without a number alone
 pub returns-in-Ok-Session-clause-unread : goal.returns-in-Ok-Session-clause-unread
-returns-in-Ok-Session-clause-unread g c = λ not_step.
+returns-in-Ok-Session-clause-unread g c = λ no_run.
     let named = rw c.in-Ok-Session.field-0-is at c.in-Ok-Session.ensures in
-    c.session_call.ensures.unread (λ is. not_step (subst (λ (k : SessionCommand). Names (map string_bytes c.args.words.now) (Session k)) is named))
+    c.session_call.ensures.unread (λ in_mode is. no_run in_mode (subst (λ (k : SessionCommand). Names (map string_bytes c.args.words.now) (Session k)) is named))
 
 pub returns-in-Ok-Plain-clause-bound : goal.returns-in-Ok-Plain-clause-bound
 returns-in-Ok-Plain-clause-bound g c =
@@ -82,17 +82,17 @@ pub returns-in-Err-clause-refused : goal.returns-in-Err-clause-refused
 returns-in-Err-clause-refused g c = λ refused. KeptNine-refl g.D.Disk c.args.disks.now
 
 pub returns-in-Ok-Session-clause-untouched : goal.returns-in-Ok-Session-clause-untouched
-returns-in-Ok-Session-clause-untouched g c = λ not_init not_recover not_step.
-    absurd (is_step (map string_bytes c.args.words.now) c.in-Ok-Session.command (rw c.in-Ok-Session.field-0-is at c.in-Ok-Session.ensures) not_step)
+returns-in-Ok-Session-clause-untouched g c = λ not_init not_recover no_run.
+    absurd (no_run c.in-Ok-Session.command (rw c.in-Ok-Session.field-0-is at c.in-Ok-Session.ensures))
 
 pub returns-in-Ok-Plain-clause-untouched : goal.returns-in-Ok-Plain-clause-untouched
-returns-in-Ok-Plain-clause-untouched g c = λ not_init not_recover not_step.
+returns-in-Ok-Plain-clause-untouched g c = λ not_init not_recover no_run.
     let named = rw c.in-Ok-Plain.field-0-is at c.in-Ok-Plain.ensures in
     c.plain_call.ensures.untouched (λ is. not_init (subst (λ (k : PlainCommand). Names (map string_bytes c.args.words.now) (Plain k)) is named))
     (λ is. not_recover (subst (λ (k : PlainCommand). Names (map string_bytes c.args.words.now) (Plain k)) is named))
 
 pub returns-in-Err-clause-untouched : goal.returns-in-Err-clause-untouched
-returns-in-Err-clause-untouched g c = λ not_init not_recover not_step. KeptNine-refl g.D.Disk c.args.disks.now
+returns-in-Err-clause-untouched g c = λ not_init not_recover no_run. KeptNine-refl g.D.Disk c.args.disks.now
 
 pub returns-in-Ok-Session-clause-store : goal.returns-in-Ok-Session-clause-store
 returns-in-Ok-Session-clause-store g c = λ not_init not_recover. c.session_call.ensures.store

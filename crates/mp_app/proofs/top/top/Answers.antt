@@ -14,6 +14,6 @@ returns-clause-complete g c = λ command names nothing order.
 
 -- a number's script has one summary
 pub returns-clause-one : goal.returns-clause-one
-returns-clause-one g c = λ number opening done names tell opens room.
-    one_written g.D.Disk c.law_one_summary.ensures (read_of g.S.Source c.args.source.now c.call.new.source) c.args.disks.now c.call.new.disks number opening tell opens room
+returns-clause-one g c = λ in_mode number opening done names tell opens room.
+    one_written g.D.Disk c.law_one_summary.ensures (read_of g.S.Source c.args.source.now c.call.new.source) c.args.disks.now c.call.new.disks in_mode number opening tell opens room
     (map string_bytes c.args.words.now) c.call.result _ _ names done (c.call.ensures.written (done_no_sink c.call.result done))
