@@ -1,13 +1,12 @@
 -- A table of places is made anew, buffer by buffer.
-use Rattle.std.proofs.Common.{◌≡◌, ℕ, zero, suc, ◌+◌, ◌<◌, ◌≤◌, not, Bool, true, false, cond, List, [], ◌∷◌, map, filter, replicate, length, slice_get, slice_set, Option, Some, None, ◌⊎◌, inl, inr, ⊎_elim, refl, sym, ap, ◌∙◌, subst, arith}
-use Rattle.std.proofs.lemmas.List.{length-replicate}
+use Rattle.std.proofs.Common.{◌≡◌, ◌≢◌, ℕ, suc, ◌+◌, ◌<◌, ◌≤◌, not, Bool, true, false, cond, List, [], ◌∷◌, map, length, slice_get, slice_set, Some, refl, sym, ap, ◌∙◌, arith}
 use Rattle.std.proofs.lemmas.Option.{slice_get_within, slice_get-map}
 use mathlib.Core.Logic.{dite}
 use native.Mathlib.Decide.{ℕ_discrete}
 use Rattle.mp_core_pages.specs.declared.opening.TheConstants.{PAGES}
 use Rattle.mp_buffer_fusion.specs.declared.pool.TheConstants.{BUFFERS}
 use Rattle.mp_buffer_fusion.specs.declared.buffer.Buffer.{Buffer}
-use Rattle.mp_buffer_fusion.specs.Places.{IsKeptPool, AreApart}
+use Rattle.mp_buffer_fusion.specs.Places.{IsKeptPool, ListsNone, AreApart}
 use Rattle.mp_buffer_fusion.specs.Buffers.{unpinned_buffer, dirty_buffers}
 use Rattle.mp_buffer_fusion.proofs.Buffered.{passed_place, passed_distinct}
 use Rattle.mp_buffer_fusion.proofs.Kept.{one_value, set_here, set_else, set_length, distinct}
@@ -19,16 +18,47 @@ pub record ListsUpTo (buffers : List Buffer) (places : List ℕ) (n : ℕ) : Typ
   pub placed : (i : ℕ) (b : Buffer) → i < n → slice_get buffers i ≡ Some b → slice_get places b.number ≡ Some (i + 1)
   pub pointed : (k i : ℕ) → slice_get places k ≡ Some (i + 1) → (i < n) × ((b : Buffer) × (slice_get buffers i ≡ Some b) × (b.number ≡ k))
 
-no_place : (n k i : ℕ) → slice_get (replicate {A = ℕ} n 0) k ≡ Some (i + 1) → ⊥
-no_place zero k i at = absurd (cc)
-no_place (suc n) zero i at = let none : 0 ≡ i + 1 = one_value at in absurd (omega arith)
-no_place (suc n) (suc k) i at = no_place n k i at
-
-pub lists_none : (buffers : List Buffer) (places : List ℕ) → places ≡ replicate {A = ℕ} PAGES 0 → ListsUpTo buffers places 0
-lists_none buffers places zeros = record {
-  table = ap length zeros ∙ length-replicate {A = ℕ} PAGES 0;
+pub lists_none : (buffers : List Buffer) (places : List ℕ) → ListsNone places → ListsUpTo buffers places 0
+lists_none buffers places empty = record {
+  table = empty.table;
   placed = λ i b less at. absurd (omega (arith, less));
-  pointed = λ k i at. absurd (no_place PAGES k i (ap (λ l. slice_get l k) (sym zeros) ∙ at));
+  pointed = λ k i at. absurd (empty.none k i at);
+}
+
+-- The table has no place of the first buffers, so many of them
+pub record ForgotUpTo (buffers : List Buffer) (places : List ℕ) (n : ℕ) : Type 0 where
+  pub table : length places ≡ PAGES
+  pub pointed : (k i : ℕ) → slice_get places k ≡ Some (i + 1) → (n ≤ i) × ((b : Buffer) × (slice_get buffers i ≡ Some b) × (b.number ≡ k))
+
+pub forgot_none : (buffers : List Buffer) (places : List ℕ) → IsKeptPool buffers places → ForgotUpTo buffers places 0
+forgot_none buffers places kept = record { table = kept.table; pointed = λ k i at. (omega arith, kept.pointed k i at) }
+
+pub forgot_more : (buffers : List Buffer) (places : List ℕ) (n : ℕ) → ForgotUpTo buffers places n → (x : Buffer) → slice_get buffers n ≡ Some x
+    → ForgotUpTo buffers (slice_set places x.number 0) (n + 1)
+forgot_more buffers places n forgot x here = record {
+  table = set_length places x.number 0 ∙ forgot.table;
+  pointed = λ k i at.
+      dite (ℕ_discrete k x.number)
+      (λ same.
+      let inside = slice_get_within (slice_set places x.number 0) k (i + 1) at in
+      let one : 0 ≡ i + 1 = one_value (sym (set_here places x.number 0 (omega (arith, inside, same, set_length places x.number 0))) ∙ ap (slice_get (slice_set places x.number 0)) (sym same) ∙ at) in
+      absurd (omega (arith, one)))
+      (λ other.
+      let was = forgot.pointed k i (sym (set_else places x.number k 0 other) ∙ at) in
+      let later : n ≢ i = λ same. other (sym was.1.2 ∙ ap (λ (y : Buffer). y.number) (one_buffer (sym was.1.1 ∙ ap (slice_get buffers) (sym same) ∙ here))) in
+      (omega (arith, was.0, later), was.1));
+}
+  where
+    one_buffer : {b c : Buffer} → Some b ≡ Some c → b ≡ c
+    one_buffer e = cc
+
+pub forgot_all : (buffers : List Buffer) (places : List ℕ) (n : ℕ) → length buffers ≤ n → ForgotUpTo buffers places n → ListsNone places
+forgot_all buffers places n all forgot = record {
+  table = forgot.table;
+  none = λ k i at.
+      let was = forgot.pointed k i at in
+      let within = slice_get_within buffers i was.1.0 was.1.1 in
+      omega (arith, was.0, within, all);
 }
 
 pub lists_more : (buffers : List Buffer) → AreApart buffers → (places : List ℕ) (n : ℕ) → ListsUpTo buffers places n → (x : Buffer) → slice_get buffers n ≡ Some x

@@ -20,8 +20,8 @@ abbrev pub IsBuffered : List Buffer → ℕ → Type 0
 IsBuffered pool k = ¬ (buffer_of pool k ≡ None)
 
 -- where the page has no buffer, one is free
-abbrev pub HasRoom : List Buffer → ℕ → Type 0
-HasRoom pool k = buffer_of pool k ≡ None → length pool < BUFFERS
+abbrev pub HasFreeBuffer : List Buffer → ℕ → Type 0
+HasFreeBuffer pool k = buffer_of pool k ≡ None → length pool < BUFFERS
 
 -- the page's buffer is the one at this place, and it is this
 abbrev pub StandsAt : List Buffer → ℕ → ℕ → Buffer → Type 0

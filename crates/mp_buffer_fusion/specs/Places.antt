@@ -11,6 +11,11 @@ pub record IsKeptPool (buffers : List Buffer) (places : List ℕ) : Type 0 where
   pub placed : (i : ℕ) (b : Buffer) → slice_get buffers i ≡ Some b → slice_get places b.number ≡ Some (i + 1)
   pub pointed : (k i : ℕ) → slice_get places k ≡ Some (i + 1) → (b : Buffer) × (slice_get buffers i ≡ Some b) × (b.number ≡ k)
 
+-- The table has the place of no buffer
+pub record ListsNone (places : List ℕ) : Type 0 where
+  pub table : length places ≡ PAGES
+  pub none : (k i : ℕ) → ¬ (slice_get places k ≡ Some (i + 1))
+
 -- no two buffers have one page, and each has one that there is
 pub record AreApart (buffers : List Buffer) : Type 0 where
   pub within : (i : ℕ) (b : Buffer) → slice_get buffers i ≡ Some b → b.number < PAGES

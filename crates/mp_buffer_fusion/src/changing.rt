@@ -8,7 +8,7 @@ ghost use Rattle.mp_core_pages.specs.declared.part.PagesPart.{PagesPart};
 ghost use Rattle.mp_buffer_fusion.specs.declared.pool.TheConstants.{BUFFERS};
 ghost use Rattle.mp_buffer_fusion.specs.declared.buffer.Buffer.{Buffer};
 ghost use Rattle.mp_buffer_fusion.specs.Buffers.{buffer_of, IsBuffered, with_buffer, pinned_buffer, unpinned_buffer, dirty_buffers, rewritten_buffer, changed_by, ChangesBuffer};
-ghost use Rattle.mp_buffer_fusion.specs.Places.{IsKeptPool, AreApart};
+ghost use Rattle.mp_buffer_fusion.specs.Places.{IsKeptPool, ListsNone, AreApart};
 ghost use Rattle.mp_buffer_fusion.specs.Agreement.{AgreesWith};
 
 use crate::buffer::Buffer;
@@ -37,14 +37,23 @@ fn unpin(buffers: &mut Vec<Buffer>)
     }
 }
 
-/// Lists the places of the buffers by their pages.
+/// Takes the places of the buffers out of a table that lists them: it is empty then.
+fn forget_places(buffers: &[Buffer], places: &mut [u16])
+    requires { IsKeptPool buffers.now places.old }
+    ensures { ListsNone places.new }
+{
+    for buffer in buffers {
+        places[usize::from(buffer.number)] = 0;
+    }
+}
+
+/// Lists the places of the buffers by their pages, in an empty table.
 fn list_places(buffers: &[Buffer], places: &mut [u16])
     requires few { length buffers.now ≤ BUFFERS }
     requires apart { AreApart buffers.now }
-    requires table { length places.old ≡ PAGES }
+    requires table { ListsNone places.old }
     ensures { IsKeptPool buffers.now places.new }
 {
-    places.fill(0);
     for i in 0..buffers.len() {
         places[usize::from(buffers[i].number)] = (i + 1) as u16;
     }
@@ -80,6 +89,7 @@ impl Pool {
         ensures left { self.new ≡ map unpinned_buffer (dirty_buffers self.old) }
         ensures agrees { (part : PagesPart PageView Mtr) → AgreesWith self.old part → AgreesWith self.new part }
     {
+        forget_places(&self.buffers, &mut self.places);
         self.buffers.retain(|buffer| !buffer.clean);
         unpin(&mut self.buffers);
         list_places(&self.buffers, &mut self.places);

@@ -7,7 +7,7 @@ ghost use Rattle.mp_core_pages.specs.declared.page_lock.Held.TheVariants.{No, Wr
 ghost use Rattle.mp_shared.specs.Nodes.{HoldsPart, Reached};
 ghost use Rattle.mp_shared.specs.PageSteps.{held_in};
 ghost use Rattle.mp_buffer_fusion.specs.declared.buffer.Buffer.{Buffer};
-ghost use Rattle.mp_buffer_fusion.specs.Buffers.{buffer_of, IsBuffered, HasRoom, with_buffer, cleaned_buffer};
+ghost use Rattle.mp_buffer_fusion.specs.Buffers.{buffer_of, IsBuffered, HasFreeBuffer, with_buffer, cleaned_buffer};
 ghost use Rattle.mp_buffer_fusion.specs.Agreement.{AgreesIn, IsDurablePage, IsInFrame};
 ghost use Rattle.mp_buffer_fusion.specs.Visits.{Visits};
 ghost use Rattle.mp_buffer_fusion.specs.Fetching.{frame_missed as frame_missed_of, FetchesPlace};
@@ -50,7 +50,7 @@ impl Pool {
         requires lock { ¬ (held_in node.old p number ≡ No) }
         requires frames { node.old.frames ≡ [] }
         requires agrees { AgreesIn self.old node.old p }
-        requires room { HasRoom self.old number }
+        requires room { HasFreeBuffer self.old number }
         ensures fetched { FetchesPlace p number self.old self.new node.old node.new steps.old steps.new result }
         ensures agrees { AgreesIn self.new node.new p }
         ensures node { (node.new.run ≡ node.old.run) × (node.new.frames ≡ []) }
@@ -83,7 +83,7 @@ impl Pool {
         requires lock { ¬ (held_in node.old p number ≡ No) }
         requires frames { node.old.frames ≡ [] }
         requires agrees { AgreesIn self.old node.old p }
-        requires room { HasRoom self.old number }
+        requires room { HasFreeBuffer self.old number }
         ensures* hands { sem 𝓛 (HandsBuffer self.entry p number node.old node.new steps.old steps.new result) }
         ensures node { (node.new.run ≡ node.old.run) × (node.new.frames ≡ []) }
         ensures reached { Reached node.new }

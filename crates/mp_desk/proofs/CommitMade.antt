@@ -25,12 +25,12 @@ use Rattle.mp_shared.proofs.Holding.{held_part}
 use Rattle.mp_shared.proofs.Numbered.{numbered}
 use Rattle.mp_desk.specs.declared.desk.Desk.{Desk}
 use Rattle.mp_desk.specs.Desks.{IsAtDesk}
-use Rattle.mp_desk.specs.Making.{commit_mtr}
+use Rattle.mp_desk.specs.Making.{mtr_of_commit}
 use Rattle.mp_desk.proofs.ReachedFacts.{KnownWorld, known_world}
 use Rattle.mp_desk.proofs.MtrMade.{llsn_fits}
 
 -- its bytes
-pub commit_size : (p llsn : ℕ) (id : TrxId) (cts : ℕ) → length (mtr_bytes (commit_mtr p llsn id cts)) ≡ 27
+pub commit_size : (p llsn : ℕ) (id : TrxId) (cts : ℕ) → length (mtr_bytes (mtr_of_commit p llsn id cts)) ≡ 27
 unfolding mtr_bytes
 commit_size p llsn id cts = refl
 
@@ -42,10 +42,10 @@ same_draw : (id other : TrxId) (cts at : ℕ) → Some (draw_of id cts) ≡ Some
 same_draw id other cts at e = cc
 
 module _ (run : Run) (desk : Desk) (p : ℕ) (n : NodeView) (at : IsAtDesk run desk p n) (id : TrxId) (cts : ℕ)
-    (may : (q : CorePart) → part_in n.parts p ≡ Some q → MayRecordCommit q (commit_mtr p (desk.llsn + 1) id cts))
+    (may : (q : CorePart) → part_in n.parts p ≡ Some q → MayRecordCommit q (mtr_of_commit p (desk.llsn + 1) id cts))
     (few : (q : CorePart) → part_in n.parts p ≡ Some q → length q.pages.made < MOST_MTRS) where
   abbrev m : Mtr
-  m = commit_mtr p (desk.llsn + 1) id cts
+  m = mtr_of_commit p (desk.llsn + 1) id cts
 
   abbrev q : CorePart
   q = (held_part n p at.part).0

@@ -43,7 +43,7 @@ use Rattle.mp_supports.proofs.Unchanged.{former_neither}
 use Rattle.mp_desk.specs.declared.desk.Desk.{Desk}
 use Rattle.mp_desk.specs.declared.media.Media.{Media}
 use Rattle.mp_desk.specs.Desks.{Moves, IsAtDesk, KeepsLocks}
-use Rattle.mp_desk.specs.Making.{MediaAgree, commit_mtr, AllForced, SomeForced}
+use Rattle.mp_desk.specs.Making.{MediaAgree, mtr_of_commit, AllForced, SomeForced}
 use Rattle.mp_desk.specs.Statements.{IsReader, ReadsIn}
 use Rattle.mp_desk.specs.Writes.{CommitsAt, IsPublished, IsInTheBalance}
 use Rattle.mp_desk.proofs.ReachedFacts.{KnownWorld, known_world}
@@ -128,7 +128,7 @@ abbrev pub drawn_part : TrxId → ℕ → CorePart → CorePart
 drawn_part id cts q = trx_changed (with_draw id cts) 1 (prepared_part id q)
 
 module _ (p : ℕ) (trx : Begun) (cts llsn : ℕ) (q r : CorePart) (reads : IsReader p trx q) (view : trx.view ≤ newest q.trx) (above : newest q.trx < cts) (below : durable_of q ≤ llsn)
-    (x : Placed Mtr) (its : x.mtr ≡ commit_mtr p (llsn + 1) trx.id cts) (made : MadeOne x (drawn_part trx.id cts q) r) where
+    (x : Placed Mtr) (its : x.mtr ≡ mtr_of_commit p (llsn + 1) trx.id cts) (made : MadeOne x (drawn_part trx.id cts q) r) where
   abbrev id : TrxId
   id = trx.id
 
@@ -216,7 +216,7 @@ module _ (n : NodeView) (reached : Reached n) (p : ℕ) (trx : Begun) (q : CoreP
       let drawn = (known.facts.of_versions.commits p k.0 trx.id c in_world (ap (λ (y : Mtr). commit_by_mtr y) k.2 ∙ commit)).1 in
       nothing_drawn c (subst (λ (r : CorePart). IsIn (draw_of trx.id c) r.trx.drew) (known.agrees p q has) drawn)
 
-  pub may_record : (llsn cts : ℕ) → MayRecordCommit (drawn_part trx.id cts q) (commit_mtr p llsn trx.id cts)
+  pub may_record : (llsn cts : ℕ) → MayRecordCommit (drawn_part trx.id cts q) (mtr_of_commit p llsn trx.id cts)
   may_record llsn cts = record {
     id = trx.id;
     cts = cts;
@@ -424,9 +424,9 @@ module _ (run : Run) (desk : Desk) (p : ℕ) (trx : Begun) (cts : ℕ) (a b c : 
   pub locks_recorded : (d : NodeView) → KeepsLocks p c d → KeepsLocks p a d
   locks_recorded d kept = locks_both p a c d drawn_locks kept
 
-  pub drawn_may : (x : CorePart) → part_in c.parts p ≡ Some x → MayRecordCommit x (commit_mtr p (desk.llsn + 1) trx.id cts)
+  pub drawn_may : (x : CorePart) → part_in c.parts p ≡ Some x → MayRecordCommit x (mtr_of_commit p (desk.llsn + 1) trx.id cts)
   drawn_may x there =
-      subst (λ (y : CorePart). MayRecordCommit y (commit_mtr p (desk.llsn + 1) trx.id cts)) (one_part (part_in c.parts p) q2 x has2 there)
+      subst (λ (y : CorePart). MayRecordCommit y (mtr_of_commit p (desk.llsn + 1) trx.id cts)) (one_part (part_in c.parts p) q2 x has2 there)
       (may_record a at.reached p trx q0 has0 (held_part a p at.part).2 (reads q0 has0) (desk.llsn + 1) cts)
 
   pub drawn_few : (most : ℕ) → ((x : CorePart) → part_in a.parts p ≡ Some x → length x.pages.made < most) → (x : CorePart) → part_in c.parts p ≡ Some x → length x.pages.made < most
@@ -445,7 +445,7 @@ module _ (run : Run) (desk : Desk) (p : ℕ) (trx : Begun) (cts : ℕ) (a b c : 
       let moves = moves_trx p a b (with_prep trx.id) 1 is q0 has0 more0 DrewTheSame refl in
       exact (holds_all p a b at.part moves all) ∙ ap (λ (n : ℕ). n + 1) (tso_same p a b at.part moves)
 
-  pub moves_recorded : (x : Placed Mtr) → x.mtr ≡ commit_mtr p (desk.llsn + 1) trx.id cts → (d : NodeView) → Moves (MadeOne x) p c d → Moves (IsInTheBalance trx cts) p a d
+  pub moves_recorded : (x : Placed Mtr) → x.mtr ≡ mtr_of_commit p (desk.llsn + 1) trx.id cts → (d : NodeView) → Moves (MadeOne x) p c d → Moves (IsInTheBalance trx cts) p a d
   moves_recorded x its d moves =
       let one = moves_trx p a b (with_prep trx.id) 1 is q0 has0 more0 (λ x y. Unit {0}) tt in
       let two = moves_trx p b c (with_draw trx.id cts) 1 then_is q1 has1 more1 (λ x y. Unit {0}) tt in

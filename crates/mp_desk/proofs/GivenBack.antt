@@ -1,5 +1,5 @@
 -- Pages go into their frames, and locks are given back.
-use Rattle.std.proofs.Common.{◌≡◌, ℕ, zero, suc, ◌+◌, ◌<◌, ◌≤◌, not, ◌==◌, if◌then◌else◌, ◌⊎◌, Bool, true, false, cond, List, [], ◌∷◌, length, map, slice_get, Option, None, Some, refl, sym, ap, subst, ◌∙◌, inl, inr, arith}
+use Rattle.std.proofs.Common.{◌≡◌, ℕ, zero, suc, ◌+◌, ◌<◌, ◌≤◌, not, ◌==◌, if◌then◌else◌, ◌⊎◌, Bool, true, false, cond, List, [], ◌∷◌, length, map, slice_get, Option, None, Some, refl, sym, ap, subst, ◌∙◌, inl, inr, ⊎_elim, arith}
 use Rattle.std.proofs.lemmas.Bool.{cases_Bool, cases_lt, false≢true}
 use Rattle.std.proofs.lemmas.Option.{slice_get-map}
 use Rattle.std.specs.Option.{option_map}
@@ -325,15 +325,6 @@ module _ (run : Run) (desk : Desk) (p : ℕ) (n : NodeView) (at : IsAtDesk run d
         (λ same. held_later j ∙ if_equal j k No (held_at uq.pages.locks j) same)
         (λ other. held_later j ∙ if_differs j k No (held_at uq.pages.locks j) other ∙ sym (held_is n p j uq uhas) ∙ below j (omega (arith, less, other)))
 
--- a lock that is read or written is held
-pub is_held_so : (x held : Held) → x ≡ held → (x ≡ Read) ⊎ (x ≡ Write) → ¬ (held ≡ No)
-is_held_so x held same (inl reads) none = let both : Read ≡ No = sym reads ∙ same ∙ none in cc
-is_held_so x held same (inr writes) none = let both : Write ≡ No = sym writes ∙ same ∙ none in cc
-
--- a lock that isn't held
-pub none_held_next : (n : NodeView) (p k : ℕ) → held_in n p k ≡ No → ((j : ℕ) → j < k → held_in n p j ≡ No) → (j : ℕ) → j < k + 1 → held_in n p j ≡ No
-none_held_next n p k none below j less = dite (ℕ_discrete j k) (λ same. ap (held_in n p) same ∙ none) (λ other. below j (omega (arith, less, other)))
-
 -- all are given back
 let_go_part : (q r : CorePart) → OnlyGaveBack q r → last_made_llsn q ≡ durable_of q → ((k : ℕ) → held_at r.pages.locks k ≡ No) → HasLetGo q r
 let_go_part q r gave durable idle = record { extends = gave.looked.extends; trx = gave.trx; made = gave.looked.made; durable = durable_kept q r gave durable; idle = idle }
@@ -438,6 +429,11 @@ module _ (run : Run) (desk : Desk) (p : ℕ) (before : NodeView) (k : ℕ) (n : 
         idle = none_held_more run desk p n so_far.at empty k after becomes reached so_far.idle;
       }
 
-  -- or wasn't held
-  pub released_none : held_in n p k ≡ No → ReleasedUpTo run desk p before (k + 1) n
-  released_none none = record { at = so_far.at; moves = so_far.moves; durable = so_far.durable; idle = none_held_next n p k none so_far.idle }
+  -- or those up to a later page aren't held
+  pub released_to : (later : ℕ) → ((j : ℕ) → k ≤ j → j < later → held_in n p j ≡ No) → ReleasedUpTo run desk p before later n
+  released_to later none = record {
+    at = so_far.at;
+    moves = so_far.moves;
+    durable = so_far.durable;
+    idle = λ j less. ⊎_elim (λ before. so_far.idle j before) (λ from. none j from less) (cases_lt j k);
+  }

@@ -20,7 +20,7 @@ use Rattle.mp_buffer_fusion.specs.Buffers.{IsBuffered, pool_recorded}
 use Rattle.mp_desk.specs.declared.desk.Desk.{Desk}
 use Rattle.mp_desk.specs.Desks.{IsAtDesk, KeepsLocks}
 use Rattle.mp_desk.specs.Planned.{HasTaken}
-use Rattle.mp_desk.specs.Making.{llsn_in, mtr_of_plan, commit_mtr, MayPlan, MakesMtr, IsUndoAfter}
+use Rattle.mp_desk.specs.Making.{llsn_in, mtr_of_plan, mtr_of_commit, MayPlan, MakesMtr, IsUndoAfter}
 use Rattle.mp_desk.proofs.PlanRecords.{plan_of_records}
 use Rattle.mp_desk.proofs.Makeable.{taken_page, planned_steps}
 use Rattle.mp_desk.proofs.MtrAtDesk.{mtr_at_desk, mtr_locks}
@@ -51,16 +51,16 @@ module _ (run : Run) (desk : Desk) (p : ℕ) (n : NodeView) (at : IsAtDesk run d
 -- ---- a commit record
 
 module _ (run : Run) (desk : Desk) (p : ℕ) (n : NodeView) (at : IsAtDesk run desk p n) (id : TrxId) (cts : ℕ)
-    (x : Placed Mtr) (its : x.mtr ≡ commit_mtr p (desk.llsn + 1) id cts) (later : NodeView) (made : MakesMtr p x n later) (reached : Reached later) where
-  none_touched : (k : ℕ) → touches k (plan_of (commit_mtr p (desk.llsn + 1) id cts).records) ≡ true → IsBuffered desk.pool k × (held_in n p k ≡ Write)
+    (x : Placed Mtr) (its : x.mtr ≡ mtr_of_commit p (desk.llsn + 1) id cts) (later : NodeView) (made : MakesMtr p x n later) (reached : Reached later) where
+  none_touched : (k : ℕ) → touches k (plan_of (mtr_of_commit p (desk.llsn + 1) id cts).records) ≡ true → IsBuffered desk.pool k × (held_in n p k ≡ Write)
   none_touched k touch = absurd (false≢true touch)
 
   pub commit_at_desk : (new : Desk) → new.pool ≡ desk.pool → new.llsn ≡ desk.llsn + 1 → new.undo ≡ desk.undo → IsAtDesk run new p later
-  commit_at_desk new pool llsn undo = mtr_at_desk run desk p n at (commit_mtr p (desk.llsn + 1) id cts) refl none_touched tt x its later made reached new pool llsn (inr (undo, λ page there. there))
+  commit_at_desk new pool llsn undo = mtr_at_desk run desk p n at (mtr_of_commit p (desk.llsn + 1) id cts) refl none_touched tt x its later made reached new pool llsn (inr (undo, λ page there. there))
 
   pub commit_locks : KeepsLocks p n later
-  commit_locks = mtr_locks run desk p n at (commit_mtr p (desk.llsn + 1) id cts) refl none_touched tt x its later made reached
+  commit_locks = mtr_locks run desk p n at (mtr_of_commit p (desk.llsn + 1) id cts) refl none_touched tt x its later made reached
 
 -- the commit record's mtr, as it is put together
-pub commit_is : (node p llsn : ℕ) (id : TrxId) (cts : ℕ) (items none : List Record) → node ≡ p → none ≡ [] → items ≡ none ++ records.Commit id cts ∷ [] → record { node = node; llsn = llsn; records = items } ≡ commit_mtr p llsn id cts
+pub commit_is : (node p llsn : ℕ) (id : TrxId) (cts : ℕ) (items none : List Record) → node ≡ p → none ≡ [] → items ≡ none ++ records.Commit id cts ∷ [] → record { node = node; llsn = llsn; records = items } ≡ mtr_of_commit p llsn id cts
 commit_is node p llsn id cts items none own empty is = λ i. record { node = own i; llsn = llsn; records = (is ∙ ap (λ l. l ++ records.Commit id cts ∷ []) empty) i }

@@ -53,8 +53,8 @@ abbrev pub mtr_of_plan : Desk → Mtr
 mtr_of_plan desk = record { node = desk.mtr.node; llsn = desk.llsn + 1; records = records_of_plan (desk.llsn + 1) (llsn_in desk.pool) desk.plan }
 
 -- the mtr that records a commit
-abbrev pub commit_mtr : ℕ → ℕ → TrxId → ℕ → Mtr
-commit_mtr p llsn id cts = record { node = p; llsn = llsn; records = commit_records id cts }
+abbrev pub mtr_of_commit : ℕ → ℕ → TrxId → ℕ → Mtr
+mtr_of_commit p llsn id cts = record { node = p; llsn = llsn; records = commit_records id cts }
 
 -- the part may make an mtr of this plan: it puts a row, or puts one back
 abbrev pub MayPlan : CorePart → Plan → Type 0

@@ -12,10 +12,9 @@ ghost use Rattle.mp_desk.specs.LetGo.{OnlyGaveBack, IsAllDurable, HasLetGo};
 use crate::desk::Desk;
 use crate::media::Media;
 use mp_buffer_fusion::{BUFFERS, Pool};
-use mp_core_pages::PAGES;
 use mp_lock_fusion::release;
 use mp_outside::{Disk, Failed};
-use mp_shared::{Held, Node, Shared};
+use mp_shared::{Node, Shared};
 
 /// The page in the i-th buffer, from 0, where it isn't clean. `None` where it is, and behind the last.
 fn changed_page(pool: &Pool, i: usize) -> Option<u16>
@@ -57,11 +56,10 @@ impl Desk {
         ensures gone { Moves HasLetGo p node.old node.new }
         ensures released { Moves OnlyGaveBack p node.old node.new }
     {
-        for number in 0..PAGES {
-            match node.holds(p, number) {
-                Held::No => {}
-                Held::Read | Held::Write => release(shared, node, p, number),
-            }
+        let mut from = 0;
+        'locks: while let Some(number) = node.next_held(p, from) {
+            release(shared, node, p, number);
+            from = number + 1;
         }
     }
 

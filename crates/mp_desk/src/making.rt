@@ -19,7 +19,7 @@ ghost use Rattle.mp_supports.specs.Steps.{MadeOne};
 ghost use Rattle.mp_desk.specs.declared.media.TheConstants.{MTR_ROOM};
 ghost use Rattle.mp_desk.specs.Desks.{IsAtDesk, KeepsLocks, Moves};
 ghost use Rattle.mp_desk.specs.Planned.{HasTaken};
-ghost use Rattle.mp_desk.specs.Making.{llsn_in, records_of_plan, CanChangeBuffers, mtr_of_plan, commit_mtr, MayPlan, MakesMtr, IsMadeAfter, HasSamePages, IsUndoAfter, IsOpenLog, MediaAgree};
+ghost use Rattle.mp_desk.specs.Making.{llsn_in, records_of_plan, CanChangeBuffers, mtr_of_plan, mtr_of_commit, MayPlan, MakesMtr, IsMadeAfter, HasSamePages, IsUndoAfter, IsOpenLog, MediaAgree};
 
 use crate::desk::Desk;
 use crate::media::Media;
@@ -151,12 +151,12 @@ impl Desk {
     )
         requires desk { IsAtDesk shared.now self.old p node.old }
         requires own { self.old.mtr.node ≡ p }
-        requires may { (q : CorePart) → part_in node.old.parts p ≡ Some q → MayRecordCommit q (commit_mtr p (self.old.llsn + 1) id cts) }
+        requires may { (q : CorePart) → part_in node.old.parts p ≡ Some q → MayRecordCommit q (mtr_of_commit p (self.old.llsn + 1) id cts) }
         requires few { (q : CorePart) → part_in node.old.parts p ≡ Some q → length q.pages.made < MOST_MTRS }
         requires log { IsOpenLog p self.old.llsn media.old.log }
         requires room { 27 ≤ room_of media.old.log.tail }
         ensures desk { IsAtDesk shared.now self.new p node.new }
-        ensures made { (x : Placed Mtr) × (x.mtr ≡ commit_mtr p (self.old.llsn + 1) id cts) × Moves (MadeOne x) p node.old node.new
+        ensures made { (x : Placed Mtr) × (x.mtr ≡ mtr_of_commit p (self.old.llsn + 1) id cts) × Moves (MadeOne x) p node.old node.new
             × IsMadeAfter node.old x }
         ensures same { self.new ≡ record self.old { llsn = self.old.llsn + 1; mtr = self.new.mtr } }
         ensures locks { KeepsLocks p node.old node.new }

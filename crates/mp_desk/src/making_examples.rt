@@ -13,7 +13,7 @@ ghost use Rattle.mp_shared.specs.Nodes.{Run};
 ghost use Rattle.mp_shared.specs.PageSteps.{with_pages};
 ghost use Rattle.mp_shared.specs.SmallNodes.{node_of_first, holding_zero};
 ghost use Rattle.mp_buffer_fusion.specs.PoolExamples.{blank_buffer};
-ghost use Rattle.mp_desk.specs.Making.{llsn_in, records_of_plan, CanChangeBuffers, commit_mtr, MayPlan, IsMadeAfter, MakesMtr, HasSamePages, IsUndoAfter, IsOpenLog, AllForced, SomeForced};
+ghost use Rattle.mp_desk.specs.Making.{llsn_in, records_of_plan, CanChangeBuffers, mtr_of_commit, MayPlan, IsMadeAfter, MakesMtr, HasSamePages, IsUndoAfter, IsOpenLog, AllForced, SomeForced};
 ghost use Rattle.mp_desk.specs.LetGo.{OnlyGaveBack, IsAllDurable, HasLetGo};
 
 /// A second record of a page tells the mtr's own LLSN. A page is made an undo page once. An mtr is new in its part, and
@@ -25,8 +25,8 @@ pub fn law_making_examples()
     ensures no_llsn { llsn_in (blank_buffer 5 true ∷ []) 2 ≡ 0 }
     ensures can_change { CanChangeBuffers 5 (blank_buffer 0 true ∷ []) ((1, MakeUndo) ∷ []) }
     ensures not_twice { ¬ CanChangeBuffers 5 (blank_buffer 0 true ∷ []) ((1, MakeUndo) ∷ (1, MakeUndo) ∷ []) }
-    ensures commit { commit_mtr 1 7 (small_trx 0) 5 ≡ first_commit_mtr }
-    ensures no_other_llsn { ¬ (commit_mtr 1 8 (small_trx 0) 5 ≡ first_commit_mtr) }
+    ensures commit { mtr_of_commit 1 7 (small_trx 0) 5 ≡ first_commit_mtr }
+    ensures no_other_llsn { ¬ (mtr_of_commit 1 8 (small_trx 0) 5 ≡ first_commit_mtr) }
     ensures may_plan { MayPlan active_part (plan_of small_put.records) }
     ensures no_empty_plan { ¬ MayPlan active_part [] }
     ensures makes { (run : Run)

@@ -13,6 +13,7 @@ pub mod Numbered
 pub mod Holding
 pub mod Sent
 mod Closing
+mod FirstHeld
 mod FirstWords
 mod Begins
 mod Cuts

@@ -1,56 +1,14 @@
 //! How the parts that a node holds hold page locks, so that a node knows it without a step.
-ghost use Rattle.std.specs.Prelude.{◌≡◌, ℕ, ◌<◌, ◌≤◌, Some, None, IfOk, slice_get, slice_set, slice_index_or};
+ghost use Rattle.std.specs.Prelude.{◌≡◌, ℕ, ◌<◌, ◌≤◌, Some, None, IfOk, slice_index_or};
 ghost use Rattle.mp_machine.specs.Lists.{updated};
 ghost use Rattle.mp_machine.specs.View.{either_part};
 ghost use Rattle.mp_core_pages.specs.declared.page_lock.Held.TheVariants.{No};
 ghost use Rattle.mp_core_pages.specs.declared.opening.TheConstants.{PAGES};
-ghost use Rattle.mp_shared.specs.LockTables.{NotesLocks};
+ghost use Rattle.mp_shared.specs.LockTables.{NotesLocks, IsFirstHeld};
 
-use mp_core_pages::{Held, PAGES};
+use crate::lock_table::LockTable;
+use mp_core_pages::Held;
 use std::alloc::{AllocError, Global};
-use std::marker::Model;
-
-/// How one part holds each page's lock, by page.
-#[derive(Drop)]
-pub(crate) struct LockTable {
-    held: Vec<Held>,
-}
-
-impl Model for LockTable {
-    ghost use Rattle.std.specs.Prelude.{◌≡◌, List, length};
-    ghost use Rattle.mp_core_pages.specs.declared.opening.TheConstants.{PAGES};
-    ghost use Rattle.mp_core_pages.specs.declared.page_lock.Held.{Held};
-
-    ghost Value = { List Held };
-
-    ghost view = { λ t. t.held.items };
-
-    ghost invariant = { λ t. length t.held.items ≡ PAGES };
-}
-
-impl LockTable {
-    /// No page's lock is held.
-    fn free(alloc: Global) -> Result<LockTable, AllocError>
-        ensures { IfOk result (λ t. NotesLocks (Some t) (λ _. No)) }
-    {
-        let held = Vec::from_elem(alloc, Held::No, usize::from(PAGES))?;
-        Ok(LockTable { held })
-    }
-
-    fn get(&self, page: u16) -> Held
-        requires { page < PAGES }
-        ensures { slice_get self.now page ≡ Some result }
-    {
-        self.held[usize::from(page)]
-    }
-
-    fn set(&mut self, page: u16, held: Held)
-        requires { page < PAGES }
-        ensures { self.new ≡ slice_set self.old page held }
-    {
-        self.held[usize::from(page)] = held;
-    }
-}
 
 /// By primary, the table of its part, where the part is held. Place 0 is nobody's.
 #[derive(Drop)]
@@ -89,6 +47,17 @@ impl HeldLocks {
         match &self.tables[usize::from(p)] {
             Some(table) => table.get(page),
             None => Held::No,
+        }
+    }
+
+    /// The first page from `from` on whose lock the part of primary `p` holds. `None` where it holds none of them.
+    pub(crate) fn next(&self, p: u8, from: u16) -> Option<u16>
+        requires { p ≤ 8 }
+        ensures { (held : ℕ → Held) → NotesLocks (slice_index_or self.now.tables p None) held → IsFirstHeld held from PAGES result }
+    {
+        match &self.tables[usize::from(p)] {
+            Some(table) => table.next(from),
+            None => None,
         }
     }
 

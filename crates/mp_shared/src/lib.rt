@@ -8,6 +8,7 @@ mod frames;
 mod held_locks;
 mod laws;
 mod lock_steps;
+mod lock_table;
 mod log_steps;
 mod node;
 mod opening;

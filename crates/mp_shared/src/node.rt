@@ -2,6 +2,7 @@
 ghost use Rattle.std.specs.Prelude.{◌≡◌, ◌<◌, IfSome};
 ghost use Rattle.mp_core_pages.specs.declared.opening.TheConstants.{PAGES};
 ghost use Rattle.mp_shared.specs.KeptNodes.{CarriesAllOut};
+ghost use Rattle.mp_shared.specs.LockTables.{IsFirstHeld};
 ghost use Rattle.mp_shared.specs.Nodes.{HoldsPart, Reached};
 ghost use Rattle.mp_shared.specs.PageSteps.{held_in};
 ghost use Rattle.mp_shared.specs.Slots.{next_slot, CanUse};
@@ -48,6 +49,17 @@ impl Node {
         ensures reached { Reached self.now }
     {
         self.locks.get(p, page)
+    }
+
+    /// The first page from `from` on whose lock primary `p` holds. `None` where it holds none of them. It makes no step and
+    /// takes no memory, and looks at few pages beside those that it finds.
+    pub fn next_held(&self, p: u8, from: u16) -> Option<u16>
+        requires part { HoldsPart self.now p }
+        ensures next { IsFirstHeld (held_in self.now p) from PAGES result }
+        ensures carries { CarriesAllOut self.now.parts self.now.frames }
+        ensures reached { Reached self.now }
+    {
+        self.locks.next(p, from)
     }
 
     /// The slot that the next transaction of primary `p` takes: each transaction takes its primary's next unused slot.

@@ -12,13 +12,13 @@ use Rattle.mp_buffer_fusion.proofs.pool.Pool.unpin_all.Goals as goal
 
 pub list_places-requires-clause-few : goal.list_places-requires-clause-few
 list_places-requires-clause-few c =
-    let view : c.deref.result.now ≡ c.unpin.new.buffers.items = search rules in
+    let view : c.deref-2.result.now ≡ c.unpin.new.buffers.items = search rules in
     let is = c.unpin.ensures.items ∙ ap (map unpinned_buffer) (filter_same _ _ _ (λ x b f' k. search rules) _ _ c.retain.ensures.filtered) in
     subst (λ (l : List Buffer). length l ≤ BUFFERS) (sym (view ∙ is)) (dirty_few c.self.inside.buffers.items c.self.invariant.0.few)
 
 pub list_places-requires-clause-apart : goal.list_places-requires-clause-apart
 list_places-requires-clause-apart c =
-    let view : c.deref.result.now ≡ c.unpin.new.buffers.items = search rules in
+    let view : c.deref-2.result.now ≡ c.unpin.new.buffers.items = search rules in
     let is = c.unpin.ensures.items ∙ ap (map unpinned_buffer) (filter_same _ _ _ (λ x b f' k. search rules) _ _ c.retain.ensures.filtered) in
     subst AreApart (sym (view ∙ is)) (dirty_apart c.self.inside.buffers.items (kept_apart c.self.inside.buffers.items c.self.inside.places.items c.self.invariant.0))
 

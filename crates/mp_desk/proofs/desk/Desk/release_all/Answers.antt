@@ -1,32 +1,27 @@
-use Rattle.std.proofs.Common.{◌≡◌, ◌+◌, sym, subst, ◌∙◌, arith}
-use Rattle.mp_core_pages.specs.declared.page_lock.Held.TheVariants.{No}
-use Rattle.mp_shared.specs.Nodes.{NodeView}
-use Rattle.mp_shared.specs.PageSteps.{held_in}
-use Rattle.mp_desk.proofs.GivenBack.{ReleasedUpTo, is_held_so, may_release, released_more, released_none, moves_let_go}
+use Rattle.std.proofs.Common.{⊎_elim, arith}
+use Rattle.std.proofs.lemmas.Bool.{cases_lt}
+use Rattle.mp_desk.proofs.GivenBack.{may_release, released_more, released_to, moves_let_go}
 use Rattle.mp_desk.proofs.desk.Desk.release_all.Goals as goal
-use Rattle.mp_desk.proofs.desk.Desk.release_all.Goals.{in-No, in-Read}
 
 pub release-requires : goal.release-requires
 release-requires c =
-    let held : ¬ (held_in c.loop-number.node c.args.p c.loop-number.number ≡ No) = is_held_so c.holds.result (held_in c.loop-number.node c.args.p c.loop-number.number) c.holds.ensures.held c.in-Read.is in
+    let so_far = c.locks.invariant.1 in
+    let next = c.in-Some.ensures.next in
     record {
-      run = c.loop-number.invariant.at.its_run;
-      may = may_release c.args.shared.now c.args.self.now c.args.p c.loop-number.node c.loop-number.invariant.at c.requires.empty c.loop-number.number c.loop-number-test.true held c.loop-number.invariant.durable c.holds.ensures.carries;
+      run = so_far.at.its_run;
+      may = may_release c.args.shared.now c.args.self.now c.args.p c.locks.node so_far.at c.requires.empty c.in-Some.number next.1 next.2 so_far.durable c.next_held.ensures.carries;
     }
 
-pub loop-number-preserved : goal.loop-number-preserved
-loop-number-preserved c =
-    elim c.match-holds.branch [
-      | in-No w ↦
-          let none : held_in c.loop-number.node c.args.p c.loop-number.number ≡ No = sym c.holds.ensures.held ∙ w.in-No.is in
-          subst (λ (n : NodeView). ReleasedUpTo c.args.shared.now c.args.self.now c.args.p c.args.node.now (c.loop-number.number + 1) n) (sym w.node-is)
-          (released_none c.args.shared.now c.args.self.now c.args.p c.args.node.now c.loop-number.number c.loop-number.node c.requires.empty c.loop-number.invariant none)
-      | in-Read w ↦
-          subst (λ (n : NodeView). ReleasedUpTo c.args.shared.now c.args.self.now c.args.p c.args.node.now (c.loop-number.number + 1) n) (sym w.node-is)
-          (released_more c.args.shared.now c.args.self.now c.args.p c.args.node.now c.loop-number.number c.loop-number.node c.requires.empty c.loop-number.invariant w.release.new.node w.release.ensures.becomes w.release.ensures.reached)
-    ]
+pub locks-preserved : goal.locks-preserved
+locks-preserved c =
+    let run = c.args.shared.now in
+    let next = c.in-Some.ensures.next in
+    let less = next.1 in
+    let so_far = released_to run c.args.self.now c.args.p c.args.node.now c.locks.from c.locks.node c.requires.empty c.locks.invariant.1 c.in-Some.number next.3 in
+    (omega (arith, less), released_more run c.args.self.now c.args.p c.args.node.now c.in-Some.number c.locks.node c.requires.empty so_far c.release.new.node c.release.ensures.becomes c.release.ensures.reached)
 
 pub returns-clause-gone : goal.returns-clause-gone
 returns-clause-gone c =
-    moves_let_go c.args.p c.args.node.now c.loop-number.node c.requires.desk.part c.loop-number.invariant.at.reached c.loop-number.invariant.moves c.requires.durable
-    (λ k less. c.loop-number.invariant.idle k (omega (arith, less, c.loop-number-test.false)))
+    let so_far = c.locks.invariant.1 in
+    moves_let_go c.args.p c.args.node.now c.locks.node c.requires.desk.part so_far.at.reached so_far.moves c.requires.durable
+    (λ k less. ⊎_elim (λ before. so_far.idle k before) (λ from. c.in_default.ensures.next k from less) (cases_lt k c.locks.from))
