@@ -8,7 +8,7 @@ use Rattle.mp_app.specs.declared.commands.PlainCommand.{PlainCommand}
 use Rattle.mp_app.specs.declared.commands.PlainCommand.TheVariants.{Init, Recover, Dump, Logs, Gen}
 use Rattle.mp_app.specs.declared.commands.SessionCommand.{SessionCommand}
 use Rattle.mp_app.specs.declared.commands.SessionCommand.TheVariants.{Step, Run}
-use Rattle.mp_app.specs.Commands.{words_of, HasItsNumber, Names}
+use Rattle.mp_app.specs.Commands.{command_words, HasItsNumber, Names}
 
 -- the first letter of the first word, and how many come behind it, summed up
 letter : List (List ℕ) → ℕ
@@ -31,7 +31,7 @@ command_by : ℕ → Option ℕ → Command
 command_by c number = if c == 118 then Session (Step number) else (if c == 116 then Session (Run number) else (if c == 108 then Plain Init
     else (if c == 120 then Plain Recover else (if c == 103 then Plain Dump else (if c == 111 then Plain Logs else gen_of number)))))
 
-by_words : (command : Command) → HasItsNumber command → command_by (letter (words_of command)) (number_in (words_of command)) ≡ command
+by_words : (command : Command) → HasItsNumber command → command_by (letter (command_words command)) (number_in (command_words command)) ≡ command
 unfolding letter number_in gen_of command_by
 by_words (Session (Step None)) has = refl
 by_words (Session (Step (Some number))) has = ap (λ n. Session (Step (Some n))) (decimal_is_IsNumeral number has).1

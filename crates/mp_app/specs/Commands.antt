@@ -16,16 +16,16 @@ command_in mode.Step number = Step number
 command_in mode.Run number = Run number
 
 -- the words of a command, which may be several
-abbrev pub words_of : Command → List (List ℕ)
-words_of (Session (Step None)) = codes "step" ∷ []
-words_of (Session (Step (Some number))) = codes "step" ∷ decimal number ∷ []
-words_of (Session (Run None)) = codes "run" ∷ []
-words_of (Session (Run (Some number))) = codes "run" ∷ decimal number ∷ []
-words_of (Plain Init) = codes "init" ∷ []
-words_of (Plain Recover) = codes "recover" ∷ []
-words_of (Plain Dump) = codes "dump" ∷ []
-words_of (Plain Logs) = codes "logs" ∷ []
-words_of (Plain (Gen number)) = codes "gen" ∷ decimal number ∷ []
+abbrev pub command_words : Command → List (List ℕ)
+command_words (Session (Step None)) = codes "step" ∷ []
+command_words (Session (Step (Some number))) = codes "step" ∷ decimal number ∷ []
+command_words (Session (Run None)) = codes "run" ∷ []
+command_words (Session (Run (Some number))) = codes "run" ∷ decimal number ∷ []
+command_words (Plain Init) = codes "init" ∷ []
+command_words (Plain Recover) = codes "recover" ∷ []
+command_words (Plain Dump) = codes "dump" ∷ []
+command_words (Plain Logs) = codes "logs" ∷ []
+command_words (Plain (Gen number)) = codes "gen" ∷ decimal number ∷ []
 
 -- a number is 0 to 2^64 - 1
 abbrev pub HasItsNumber : Command → Type 0
@@ -36,7 +36,7 @@ HasItsNumber command = Unit {0}
 
 -- the words name this command: they are its own, and a number stands there as its decimal text
 abbrev pub Names : List (List ℕ) → Command → Type 0
-Names words command = (words ≡ words_of command) × HasItsNumber command
+Names words command = (words ≡ command_words command) × HasItsNumber command
 
 -- the words name none
 abbrev pub NoCommand : List (List ℕ) → Type 0

@@ -33,7 +33,7 @@ use Rattle.mp_verdict.specs.Finished.{BeginsWith}
 use Rattle.mp_verdict.specs.Orders.{NodeEntry, entries_given, given_by, StepOrder}
 use Rattle.mp_desk.proofs.ReachedFacts.{KnownWorld, known_world}
 use Rattle.mp_primary.proofs.AllAnswered.{all_answered}
-use Rattle.mp_primary.specs.Primaries.{PrimaryView, IsPrimary, PrimaryAgrees}
+use Rattle.mp_primary.specs.Primaries.{PrimaryView, IsBetweenTurns, PrimaryAgrees}
 use Rattle.mp_primary.specs.Answering.{have_no_line}
 use Rattle.mp_members.specs.declared.members.Members.{Members}
 use Rattle.mp_members.specs.Running.{downs_in, AreThrough, IsMember, AreMembers, Runs, RunsApart}
@@ -65,7 +65,7 @@ within_all P (x ∷ given) all = (all.0, within_all P given all.1)
 
 module _ {D : Type 0} where
   -- a primary that has no statement left has answered all statements of its sessions
-  stated_all : (pr : PrimaryView D) → IsPrimary pr → have_no_line pr.book.sessions.items ≡ true → (session : ℕ) → session < 65 → is_session_on pr.work.sessions session pr.number ≡ true
+  stated_all : (pr : PrimaryView D) → IsBetweenTurns pr → have_no_line pr.book.sessions.items ≡ true → (session : ℕ) → session < 65 → is_session_on pr.work.sessions session pr.number ≡ true
       → answered session pr.book.answers.items ≡ stated session pr.work.lines
   stated_all pr is none session below on = all_answered pr.work.lines pr.work.sessions pr.number pr.book is.book none session below on
 

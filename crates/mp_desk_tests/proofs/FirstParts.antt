@@ -22,7 +22,7 @@ use Rattle.mp_core.specs.World.{core_part, core_start}
 use Rattle.mp_shared.specs.Nodes.{Run, NodeView, HoldsPart, Reached, first_node, node_of_one, node_without}
 use Rattle.mp_shared.proofs.FreshStores.{over_fresh, first_part}
 use Rattle.mp_shared.proofs.Holding.{holds_the_part}
-use Rattle.mp_trx_fusion.specs.Calls.{MayBegin, with_trx, with_begin}
+use Rattle.mp_trx_fusion.specs.Calls.{MayBeginTrx, with_trx, with_begin}
 use Rattle.mp_trx_fusion.proofs.Callers.{part_here}
 use Rattle.mp_buffer_fusion.specs.declared.buffer.Buffer.{Buffer}
 use Rattle.mp_buffer_fusion.specs.Buffers.{buffer_of}
@@ -73,7 +73,7 @@ first_held n p h = holds_the_part n p (core_part (core_start n.run.opening) p) h
 
 -- ---- its transaction
 
-pub first_may_begin : (n : NodeView) (p begins version : ℕ) → HasFirstPart n p begins → 1 ≤ version → version ≤ begins → MayBegin n p version
+pub first_may_begin : (n : NodeView) (p begins version : ℕ) → HasFirstPart n p begins → 1 ≤ version → version ≤ begins → MayBeginTrx n p version
 first_may_begin n p begins version h low high =
     let base : n.run.opening.trx.base.version ≡ 0 = ap (λ (b : Base). b.version) h.base in
     record {

@@ -5,7 +5,7 @@ use Rattle.mp_core_trx.specs.Events.{IsNode}
 use Rattle.mp_outside.specs.declared.disks.Disk.{Ghosts}
 use Rattle.mp_shared.specs.Nodes.{Run, first_node}
 use Rattle.mp_supports.specs.Work.{Work}
-use Rattle.mp_primary.specs.Primaries.{PrimaryView, IsPrimary, PrimaryAgreesIn}
+use Rattle.mp_primary.specs.Primaries.{PrimaryView, IsBetweenTurns, PrimaryAgreesIn}
 use Rattle.mp_primary.specs.Downs.{IsDownAsTold}
 use Rattle.mp_primary.specs.Turns.{MayTakeTurn}
 
@@ -16,7 +16,7 @@ module _ {D : Type 0} (g : Ghosts D) where
     pub number : pr.number ≡ n
     pub work_is : pr.work ≡ work
     pub up : pr.down ≡ 0
-    pub primary : IsPrimary pr
+    pub primary : IsBetweenTurns pr
     pub none : pr.book.answers.items ≡ []
     pub agrees : (run : Run) → IsNode run.opening.trx n → run.opening.trx.base ≡ work.base → run.opening.trx.begins ≡ length (begin_names work.lines)
         → PrimaryAgreesIn g pr [] (first_node run)

@@ -43,7 +43,7 @@ use Rattle.mp_desk.specs.Making.{HoldsPartOf}
 use Rattle.mp_primary.specs.Primaries.{PrimaryView, PrimaryAgreesIn, PrimaryAgrees, StandsWith}
 use Rattle.mp_primary.specs.Turns.{IsSessionOf, Adds, GoesOnBy, ComesTo, has_nothing_left, no_task_in, TellsDown, IsTakenBack}
 use Rattle.mp_primary.specs.Tries.{TriesTurn}
-use Rattle.mp_primary.specs.GoingOn.{GoesBackOf, MayReplyBack, refused_as, IsReplyBack, ClosesSession}
+use Rattle.mp_primary.specs.GoingOn.{GoesBackOf, MayReplyBack, refusal_reply, IsReplyBack, ClosesSession}
 use Rattle.mp_primary.proofs.OpenSessions.{one_of}
 use Rattle.mp_primary.proofs.AnsweredTurns.{calm, entry_of, AnswersWell, goes_on_answered, line_found}
 use Rattle.mp_primary.proofs.FreedSlots.{Freeing}
@@ -59,7 +59,7 @@ record IsPlain (stage : Stage) (stmt : Stmt) (reply : Reply) : Type 0 where
   pub calm : shows_down reply ≡ false
   pub tells : (down : ℕ) → down ≡ 0 → TellsDown down reply
 
-refused_plain : (stage : Stage) (stmt : Stmt) (verb : WriteVerb) (refusal : Refusal) → IsPlain stage stmt (refused_as verb refusal)
+refused_plain : (stage : Stage) (stmt : Stmt) (verb : WriteVerb) (refusal : Refusal) → IsPlain stage stmt (refusal_reply verb refusal)
 refused_plain stage stmt verb (refusals.Conflict cts) = record { over = refl; no_begin = λ view e. cc; no_stamp = refl; calm = refl; tells = λ down up. up }
 refused_plain stage stmt verb (refusals.Held name) = record { over = refl; no_begin = λ view e. cc; no_stamp = refl; calm = refl; tells = λ down up. up }
 refused_plain stage stmt verb refusals.Full = record { over = refl; no_begin = λ view e. cc; no_stamp = refl; calm = refl; tells = λ down up. up }
@@ -75,13 +75,13 @@ plain (Leaving trx) stage line reply h = subst (IsPlain stage line.stmt) (sym h)
 plain Skipping stage line reply h = absurd h
 plain (Outside trx) stage line reply h = absurd h
 
-is_refusal : (verb : WriteVerb) (key : ℕ) (line : Line) (refusal : Refusal) → WritesKey line verb key → IsRefusalReply refusal line (refused_as verb refusal)
+is_refusal : (verb : WriteVerb) (key : ℕ) (line : Line) (refusal : Refusal) → WritesKey line verb key → IsRefusalReply refusal line (refusal_reply verb refusal)
 is_refusal verb key line (refusals.Conflict cts) writes = (refl, (key, writes))
 is_refusal verb key line (refusals.Held name) writes = (refl, (key, writes))
 is_refusal verb key line refusals.Full writes = (key, writes)
 
 refused_may : (s : Session) (line : Line) (trx : Begun) (verb : WriteVerb) (key : ℕ) (refusal : Refusal) → WritesKey line verb key → s.stage ≡ Refused trx refusal → s.restored ≡ length s.formers.items
-    → MayAnswer s line (refused_as verb refusal) (stage_after s.stage line.stmt (refused_as verb refusal)) s.formers.items s.restored
+    → MayAnswer s line (refusal_reply verb refusal) (stage_after s.stage line.stmt (refusal_reply verb refusal)) s.formers.items s.restored
 refused_may s line trx verb key (refusals.Conflict cts) writes at all = (trx, refusals.Conflict cts, at, is_refusal verb key line (refusals.Conflict cts) writes, all, refl, refl, refl)
 refused_may s line trx verb key (refusals.Held name) writes at all = (trx, refusals.Held name, at, is_refusal verb key line (refusals.Held name) writes, all, refl, refl, refl)
 refused_may s line trx verb key refusals.Full writes at all = (trx, refusals.Full, at, is_refusal verb key line refusals.Full writes, all, refl, refl, refl)
@@ -149,7 +149,7 @@ module _ {D : Type 0} (g : Ghosts D) (run : Run) (pr : PrimaryView D) (n : NodeV
         by_stage (Open trx) at refused h = absurd h
         by_stage (Refused trx refusal) at refused h =
             let supports = subst (λ (o : Option Line). IfSome o (λ l. (x : Reply) → IsRefusalReply refusal l x → SupportsReply pr.work q 0 no_trace l x)) next.next refused in
-            subst (SupportsReply pr.work q 0 no_trace line) (sym h.3) (supports (refused_as h.0 refusal) (is_refusal h.0 h.1 line refusal h.2))
+            subst (SupportsReply pr.work q 0 no_trace line) (sym h.3) (supports (refusal_reply h.0 refusal) (is_refusal h.0 h.1 line refusal h.2))
         by_stage (Leaving trx) at refused h = subst (SupportsReply pr.work q 0 no_trace line) (sym h) (rollback_line trx at, refl)
         by_stage Skipping at refused h = absurd h
         by_stage (Outside trx) at refused h = absurd h

@@ -39,7 +39,7 @@ use Rattle.mp_outside.specs.declared.disks.Disk.{Ghosts}
 use Rattle.mp_shared.specs.Nodes.{Run, NodeView, HoldsAll, Reached}
 use Rattle.mp_shared.specs.Slots.{next_slot, CanUse}
 use Rattle.mp_shared.proofs.Holding.{held_part}
-use Rattle.mp_trx_fusion.specs.Calls.{with_trx, with_begin, Knows, tso_of, no_slot_for, MayBegin}
+use Rattle.mp_trx_fusion.specs.Calls.{with_trx, with_begin, Knows, tso_of, no_slot_for, MayBeginTrx}
 use Rattle.mp_buffer_fusion.proofs.Kept.{set_here, set_else}
 use Rattle.mp_supports.specs.Work.{name_of}
 use Rattle.mp_supports.specs.Supports.{began_trace, SupportsReply, SupportsWaits}
@@ -142,7 +142,7 @@ module _ {D : Type 0} (g : Ghosts D) (run : Run) (old : PrimaryView D) (before :
         let begins = was.exact in
         omega (arith, base, begins, below)
 
-    pub may_begin : (version : ℕ) → version ≡ old.work.base.version + place + 1 → MayBegin before old.number version
+    pub may_begin : (version : ℕ) → version ≡ old.work.base.version + place + 1 → MayBeginTrx before old.number version
     may_begin version is =
         let base : has.0.trx.opening.base.version ≡ old.work.base.version = ap (λ (b : Base). b.version) was.bounds.base in
         let most = within_begins in
@@ -313,7 +313,7 @@ module _ {D : Type 0} (g : Ghosts D) (inside old : PrimaryView D) (view : inside
       (slot_turn g run old before number s line comes up closed wait (is.1 ∙ ap (λ (v : PrimaryView D). no_slot_for v.number) view) (ap (λ (v : PrimaryView D). next_slot before v.number) (sym view) ∙ is.0))
 
   module _ (place : ℕ) (there : slice_get inside.names place ≡ Some (name_by number line.index)) where
-    pub inside_may_begin : MayBegin before inside.number (inside.work.base.version + place + 1)
+    pub inside_may_begin : MayBeginTrx before inside.number (inside.work.base.version + place + 1)
     inside_may_begin = may_begin g run inside before number s line inside_comes inside_up closed place there (inside.work.base.version + place + 1) refl
 
     pub inside_version_fits : inside.work.base.version + place + 1 < 2 ^ 24

@@ -35,7 +35,7 @@ use Rattle.mp_desk.specs.Writes.{IsPublished}
 use Rattle.mp_desk.proofs.Moving.{moves_as}
 use Rattle.mp_primary.specs.declared.outside.CommitEnd.{CommitEnd}
 use Rattle.mp_primary.specs.declared.outside.CommitEnd.TheVariants as ends
-use Rattle.mp_primary.specs.Primaries.{PrimaryView, IsPrimary, AreSessions, AreWaitsSupported, PrimaryAgreesIn, PrimaryAgrees, StandsWith}
+use Rattle.mp_primary.specs.Primaries.{PrimaryView, IsBetweenTurns, AreSessions, AreWaitsSupported, PrimaryAgreesIn, PrimaryAgrees, StandsWith}
 use Rattle.mp_primary.specs.Turns.{IsSessionOf}
 use Rattle.mp_primary.specs.OutsideCalls.{HasOpen, StandsOutside, IsOnEachImage, EndsAs}
 use Rattle.mp_primary.specs.OutsideTries.{TriesOutside}
@@ -148,7 +148,7 @@ module _ {D : Type 0} (g : Ghosts D) (run : Run) (old now : PrimaryView D) (book
   goes : (entries : List Entry) → PrimaryAgreesIn g old entries before → PrimaryAgreesIn g new (entries ++ silent_entry trace ∷ []) after
   goes entries agrees x there = subst (PrimaryAgrees g new (entries ++ silent_entry trace ∷ [])) (one_part (part_in after.parts old.number) r x then.1 there) (agrees_then entries (agrees q has))
 
-  primary : IsPrimary new
+  primary : IsBetweenTurns new
   primary = record {
     book = books;
     names = stands.primary.names;

@@ -48,7 +48,7 @@ use Rattle.mp_desk.specs.Desks.{Moves}
 use Rattle.mp_desk.proofs.Moving.{moves_as}
 use Rattle.mp_primary.specs.declared.outside.CommitEnd.{CommitEnd}
 use Rattle.mp_primary.specs.declared.outside.CommitEnd.TheVariants as ends
-use Rattle.mp_primary.specs.Primaries.{PrimaryView, IsPrimary, AreSessions, AreWaitsSupported, PrimaryAgreesIn, PrimaryAgrees, StandsWith}
+use Rattle.mp_primary.specs.Primaries.{PrimaryView, IsBetweenTurns, AreSessions, AreWaitsSupported, PrimaryAgreesIn, PrimaryAgrees, StandsWith}
 use Rattle.mp_primary.specs.Turns.{Adds, GoesOnBy, TellsDown, TriesAt, has_nothing_left, no_task_in, IsLeftAfter}
 use Rattle.mp_primary.specs.Tries.{TriesTurn}
 use Rattle.mp_primary.specs.Commits.{EndsInPart, TellsIfWrote, down_by_end, stamp_at_end, reply_at_end, left_at_end, EndsByCommit}
@@ -266,7 +266,7 @@ module _ {D : Type 0} (g : Ghosts D) (run : Run) (old now : PrimaryView D) (book
       (λ entries x was there. subst (AnswersWell g old new is.answer trace q) (one_part (part_in after.parts old.number) r x then.1 there) (well entries was))
       left_after
 
-  primary : IsPrimary new
+  primary : IsBetweenTurns new
   primary = record {
     book = books;
     names = stands.primary.names;

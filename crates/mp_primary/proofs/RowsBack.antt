@@ -52,7 +52,7 @@ use Rattle.mp_desk.specs.Desks.{Moves, IsAtDesk}
 use Rattle.mp_desk.specs.Making.{IsOpenLog, MediaAgree}
 use Rattle.mp_desk.specs.Writes.{PutsBackRows}
 use Rattle.mp_desk.proofs.Moving.{moves_as}
-use Rattle.mp_primary.specs.Primaries.{PrimaryView, IsPrimary, PrimaryAgreesIn, PrimaryAgrees, StandsWith}
+use Rattle.mp_primary.specs.Primaries.{PrimaryView, IsBetweenTurns, PrimaryAgreesIn, PrimaryAgrees, StandsWith}
 use Rattle.mp_primary.specs.GoingOn.{GoesBackOf, GoesOnQuietly}
 use Rattle.mp_primary.proofs.OpenSessions.{one_of}
 
@@ -219,7 +219,7 @@ module _ {D : Type 0} (g : Ghosts D) (run : Run) (old : PrimaryView D) (before n
   within : k ≤ length s.formers.items
   within = let now = rows.mine q has in now.2.within
 
-  primary : IsPrimary new
+  primary : IsBetweenTurns new
   primary = record {
     book = book_set old.work.lines old.work.sessions old.number old.book book number (record s { restored = k }) stands.primary.book sets
         (counted_session old.work.lines old.work.sessions old.number old.book.answers.items number s (stands.primary.book.each number s back.found) k back.back within);

@@ -46,7 +46,7 @@ use Rattle.mp_desk.specs.Desks.{Moves}
 use Rattle.mp_desk.specs.Making.{HoldsPartOf}
 use Rattle.mp_desk.proofs.Moving.{moves_as}
 use Rattle.mp_desk.proofs.MediaMoved.{not_zero}
-use Rattle.mp_primary.specs.Primaries.{PrimaryView, IsPrimary, AreSessions, AreWaitsSupported, PrimaryAgreesIn, PrimaryAgrees}
+use Rattle.mp_primary.specs.Primaries.{PrimaryView, IsBetweenTurns, AreSessions, AreWaitsSupported, PrimaryAgreesIn, PrimaryAgrees}
 use Rattle.mp_primary.specs.Turns.{IsInTurns, MayTakeTurn, IsLeftAfter, GoesOnBy, ComesTo, has_nothing_left, no_task_in, NamesWait, WaitsFor, TellsDown}
 use Rattle.mp_primary.specs.Tries.{TriesTurn}
 use Rattle.mp_primary.specs.AtWork.{HasClearedDesk, HasGoneDown}
@@ -204,7 +204,7 @@ module _ {D : Type 0} (g : Ghosts D) where
           media_up : (r : CorePart) → part_in n.parts old.number ≡ Some r → HoldsPartOf g old.work old.down old.number media r
           media_up r there = subst (λ (k : ℕ). HoldsPartOf g old.work k old.number media r) (sym cleared.work.up) (cleared.work.media r there)
 
-          primary_up : IsPrimary (record old { book = book; desk = desk; media = media })
+          primary_up : IsBetweenTurns (record old { book = book; desk = desk; media = media })
           primary_up = record {
             book = books;
             names = comes.stands.primary.names;

@@ -44,7 +44,7 @@ use Rattle.mp_primary.specs.Primaries.{PrimaryView, PrimaryAgrees}
 use Rattle.mp_primary.specs.Turns.{IsSessionOf}
 use Rattle.mp_primary.specs.Tries.{TriesTurn}
 use Rattle.mp_primary.specs.AtWork.{HasClearedDesk, LeavesAtMostOne, MayStopWith}
-use Rattle.mp_primary.specs.WriteTurns.{mtr_of_put, first_row, HasPutRow}
+use Rattle.mp_primary.specs.WriteTurns.{mtr_of_put, former_to_keep, HasPutRow}
 use Rattle.mp_primary.proofs.AnsweredTurns.{found_here}
 use Rattle.mp_primary.proofs.OpenReaders.{is_trx_of, open_no_begin, none_back}
 use Rattle.mp_primary.proofs.Stops.{of_write}
@@ -52,7 +52,7 @@ use Rattle.mp_primary.proofs.TurnEnds.{moved, line_is, HasSides, answered_up, no
 use Rattle.mp_primary.proofs.WaitsGoOn.{trx_of_more}
 
 -- the first row of a key is kept, and is the version that was replaced
-pub first_keeps : (formers : List Row) (key : ℕ) (former : Row) (first : Option Row) → former.key ≡ key → first ≡ first_row formers key former → KeepsFormer formers key first × ((first ≡ None) ⊎ (first ≡ Some former))
+pub first_keeps : (formers : List Row) (key : ℕ) (former : Row) (first : Option Row) → former.key ≡ key → first ≡ former_to_keep formers key former → KeepsFormer formers key first × ((first ≡ None) ⊎ (first ≡ Some former))
 first_keeps formers key former first its is = go (row_at key formers) refl
   where
     ends : (o : Option Row) → first ≡ o → KeepsFormer formers key o → (o ≡ None) ⊎ (o ≡ Some former) → KeepsFormer formers key first × ((first ≡ None) ⊎ (first ≡ Some former))

@@ -51,14 +51,14 @@ MayReplyBack (Leaving trx) stmt = Unit {0}
 MayReplyBack _ stmt = ⊥
 
 -- how a write is refused
-abbrev pub refused_as : WriteVerb → Refusal → Reply
-refused_as verb (refusals.Conflict cts) = Conflict verb cts
-refused_as verb (refusals.Held name) = Held verb name
-refused_as verb refusals.Full = Full verb
+abbrev pub refusal_reply : WriteVerb → Refusal → Reply
+refusal_reply verb (refusals.Conflict cts) = Conflict verb cts
+refusal_reply verb (refusals.Held name) = Held verb name
+refusal_reply verb refusals.Full = Full verb
 
 -- and is answered so
 abbrev pub IsReplyBack : Stage → Line → Reply → Type 0
-IsReplyBack (Refused trx refusal) line reply = (verb : WriteVerb) × (key : ℕ) × WritesKey line verb key × (reply ≡ refused_as verb refusal)
+IsReplyBack (Refused trx refusal) line reply = (verb : WriteVerb) × (key : ℕ) × WritesKey line verb key × (reply ≡ refusal_reply verb refusal)
 IsReplyBack (Leaving trx) line reply = reply ≡ RolledBack
 IsReplyBack _ line reply = ⊥
 

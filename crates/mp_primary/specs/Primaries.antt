@@ -40,7 +40,7 @@ pub record PrimaryView (D : Type 0) : Type 0 where
   pub down : ℕ
 
 -- A primary between two turns: its book is one of its work; while it is up, its log is open and no page is in a buffer
-pub record IsPrimary {D : Type 0} (pr : PrimaryView D) : Type 0 where
+pub record IsBetweenTurns {D : Type 0} (pr : PrimaryView D) : Type 0 where
   pub book : IsBook pr.work.lines pr.work.sessions pr.number pr.book
   pub names : pr.names ≡ begin_names pr.work.lines
   pub places : pr.places ≡ pr.work.sessions
@@ -88,6 +88,6 @@ module _ {D : Type 0} (g : Ghosts D) where
 
   -- A primary stands between two turns with a node that has its part: it is at its desk, and agrees with the part
   pub record StandsWith (run : Run) (pr : PrimaryView D) (n : NodeView) : Type 0 where
-    pub primary : IsPrimary pr
+    pub primary : IsBetweenTurns pr
     pub desk : IsAtDesk run pr.desk pr.number n
     pub agrees : (entries : List Entry) × PrimaryAgreesIn pr entries n

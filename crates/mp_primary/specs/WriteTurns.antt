@@ -38,8 +38,8 @@ abbrev pub mtr_of_put : Begun → Placed Mtr → TrxMtr
 mtr_of_put trx x = record { at = x.at; of = Some trx.id; mtr = x.mtr }
 
 -- the version that a write replaced, where its transaction has kept none of the key
-abbrev pub first_row : List Row → ℕ → Row → Option Row
-first_row formers key former = if is_some (row_at key formers) then None else Some former
+abbrev pub former_to_keep : List Row → ℕ → Row → Option Row
+former_to_keep formers key former = if is_some (row_at key formers) then None else Some former
 
 -- A refusal of a statement is right, by what the part has, and by the book
 pub record IsRightRefusal {D : Type 0} (old : PrimaryView D) (n : NodeView) (line : Line) (refusal : Refusal) : Type 0 where

@@ -14,7 +14,7 @@ ghost use Rattle.mp_desk.specs.declared.halts.BackHalt.TheVariants as backs;
 ghost use Rattle.mp_primary.specs.Primaries.{PrimaryView, StandsWith};
 ghost use Rattle.mp_primary.specs.Turns.{IsSessionOf, ComesTo, IsTakenBack};
 ghost use Rattle.mp_primary.specs.Tries.{TriesTurn};
-ghost use Rattle.mp_primary.specs.GoingOn.{GoesBackOf, CountsBack, IsAllBack, MayReplyBack, refused_as, IsReplyBack, ForgetsWaits, ClosesSession, LeavesRows, GoesOnQuietly, HaltsTurn, HaltsLeaving};
+ghost use Rattle.mp_primary.specs.GoingOn.{GoesBackOf, CountsBack, IsAllBack, MayReplyBack, refusal_reply, IsReplyBack, ForgetsWaits, ClosesSession, LeavesRows, GoesOnQuietly, HaltsTurn, HaltsLeaving};
 
 use crate::primary::Primary;
 use mp_book::{Refusal, Stage};
@@ -219,7 +219,7 @@ fn reply_to(stage: Stage, stmt: &Stmt) -> Reply
 
 // How a write is refused.
 fn reply_of(verb: WriteVerb, refusal: Refusal) -> Reply
-    ensures { result ≡ refused_as verb refusal }
+    ensures { result ≡ refusal_reply verb refusal }
 {
     match refusal {
         Refusal::Conflict(cts) => Reply::Conflict(verb, cts),

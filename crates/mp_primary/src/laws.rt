@@ -26,7 +26,7 @@ ghost use Rattle.mp_supports.specs.Work.{Work};
 ghost use Rattle.mp_desk.specs.Making.{IsOpenLog};
 ghost use Rattle.mp_primary.specs.declared.outside.CommitEnd.TheVariants as ends;
 ghost use Rattle.mp_primary.specs.declared.outside.RollRefusal.TheVariants as refusals;
-ghost use Rattle.mp_primary.specs.Primaries.{PrimaryView, IsPrimary, AreSessions, AreWaitsSupported, BeginsByAnswer, IsFirstLog, PrimaryAgrees, PrimaryAgreesIn, StandsWith};
+ghost use Rattle.mp_primary.specs.Primaries.{PrimaryView, IsBetweenTurns, AreSessions, AreWaitsSupported, BeginsByAnswer, IsFirstLog, PrimaryAgrees, PrimaryAgreesIn, StandsWith};
 ghost use Rattle.mp_primary.specs.Answering.{has_no_line, have_no_line};
 ghost use Rattle.mp_primary.specs.Downs.{IsDownAsTold, WentDownHere};
 ghost use Rattle.mp_primary.specs.Turns.{no_task_in, IsPutStatement, IsInTurns, IsTakenBack, IsSessionOf, MayTakeTurn, MayLeave, has_nothing_left, HasNoStatement, Adds, AddsAnswer, EndsUnprinted, AddsNext, WaitsFor, NamesWait, IfWaiting, TellsDown, IsLeftAfter, GoesOnBy, TakesTurn, ComesTo, ComesToStop, TriesAt};
@@ -40,8 +40,8 @@ use mp_outside::Disk;
 /// nobody. Only what was answered began a transaction. A log with appended bytes isn't a first one. A primary agrees with its
 /// part only by the answers that it has, and stands with no node that lacks its part.
 pub fn law_primary_examples<D: Disk>()
-    ensures down { (pr : PrimaryView D) (by : ℕ) → by ≢ 0 → IsPrimary pr → IsPrimary (record pr { down = by }) }
-    ensures declared_elsewhere { (pr : PrimaryView D) → pr.places ≡ [] → pr.work.sessions ≡ one_on_one → ¬ IsPrimary pr }
+    ensures down { (pr : PrimaryView D) (by : ℕ) → by ≢ 0 → IsBetweenTurns pr → IsBetweenTurns (record pr { down = by }) }
+    ensures declared_elsewhere { (pr : PrimaryView D) → pr.places ≡ [] → pr.work.sessions ≡ one_on_one → ¬ IsBetweenTurns pr }
     ensures none_open { AreSessions part_before_steps [] }
     ensures open_alone { ¬ AreSessions open_part [] }
     ensures no_waits { (work : Work) (q : CorePart) → AreWaitsSupported work q (open_session ∷ []) }

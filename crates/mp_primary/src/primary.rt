@@ -10,7 +10,7 @@ ghost use Rattle.mp_book.specs.Orderly.{IsOrderly};
 ghost use Rattle.mp_shared.specs.Nodes.{Run, first_node};
 ghost use Rattle.mp_supports.specs.Work.{Work};
 ghost use Rattle.mp_supports.specs.Kept.{Entry, answers_in};
-ghost use Rattle.mp_primary.specs.Primaries.{PrimaryView, IsPrimary, IsFirstLog, PrimaryAgrees, PrimaryAgreesIn};
+ghost use Rattle.mp_primary.specs.Primaries.{PrimaryView, IsBetweenTurns, IsFirstLog, PrimaryAgrees, PrimaryAgreesIn};
 ghost use Rattle.mp_primary.specs.Answering.{has_no_line, have_no_line};
 ghost use Rattle.mp_primary.specs.Downs.{IsDownAsTold};
 ghost use Rattle.mp_primary.specs.Turns.{MayTakeTurn};
@@ -86,7 +86,7 @@ impl<D: Disk> Primary<D> {
         ensures up { IfOk result (λ pr. pr.down ≡ 0) }
         ensures none { IfOk result (λ pr. pr.book.answers.items ≡ []) }
         ensures disk { IfOk result (λ pr. pr.media.log ≡ log) }
-        ensures primary { IfOk result IsPrimary }
+        ensures primary { IfOk result IsBetweenTurns }
         ensures sessions { IfOk result (λ pr. (number : ℕ) → number < 65 → MayTakeTurn pr number) }
         ensures agrees { IfOk result (λ pr. (run : Run) → IsNode run.opening.trx number → run.opening.trx.base ≡ base → run.opening.trx.begins ≡ length (begin_names script.now.lines.items) → PrimaryAgreesIn D.Disk pr [] (first_node run)) }
         ensures told { IfOk result (λ pr. (run : Run) → IsNode run.opening.trx number → IsDownAsTold pr (first_node run)) }

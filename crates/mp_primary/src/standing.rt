@@ -15,7 +15,7 @@ ghost use Rattle.mp_model.specs.declared.waiting.Turn.TheVariants as turns;
 ghost use Rattle.mp_shared.specs.Nodes.{Run, NodeView};
 ghost use Rattle.mp_supports.specs.Agreement.{last_made_llsn};
 ghost use Rattle.mp_supports.specs.Kept.{Entry};
-ghost use Rattle.mp_primary.specs.Primaries.{PrimaryView, IsPrimary, PrimaryAgreesIn, StandsWith};
+ghost use Rattle.mp_primary.specs.Primaries.{PrimaryView, IsBetweenTurns, PrimaryAgreesIn, StandsWith};
 ghost use Rattle.mp_primary.specs.Answering.{have_no_line};
 ghost use Rattle.mp_primary.specs.Downs.{IsDownAsTold};
 ghost use Rattle.mp_primary.specs.Turns.{Adds, AddsAnswer, EndsUnprinted, TakesTurn};
@@ -40,8 +40,8 @@ pub fn law_standing<D: Disk>()
 /// A primary's answers stand in their places; where none of its sessions has a statement left, each statement of these is
 /// answered. So it is where none has anything left.
 pub fn law_answered<D: Disk>()
-    ensures in_order { (pr : PrimaryView D) → IsPrimary pr → EachBelow (IsPlaced pr.work.lines pr.work.sessions pr.number) [] pr.book.answers.items }
-    ensures none_left { (pr : PrimaryView D) (session : ℕ) → IsPrimary pr → have_no_line pr.book.sessions.items ≡ true → session < 65
+    ensures in_order { (pr : PrimaryView D) → IsBetweenTurns pr → EachBelow (IsPlaced pr.work.lines pr.work.sessions pr.number) [] pr.book.answers.items }
+    ensures none_left { (pr : PrimaryView D) (session : ℕ) → IsBetweenTurns pr → have_no_line pr.book.sessions.items ≡ true → session < 65
         → is_session_on pr.work.sessions session pr.number ≡ true → answered session pr.book.answers.items ≡ stated session pr.work.lines }
     ensures through { (sessions : List Session) → have_no_task sessions ≡ true → have_no_line sessions ≡ true }
 {}

@@ -10,7 +10,7 @@ ghost use Rattle.mp_desk.specs.Writes.{HaltsWrite};
 ghost use Rattle.mp_primary.specs.Primaries.{PrimaryView};
 ghost use Rattle.mp_primary.specs.Turns.{IsSessionOf};
 ghost use Rattle.mp_primary.specs.Tries.{TriesTurn};
-ghost use Rattle.mp_primary.specs.WriteTurns.{IsHeldUp, HasPutRow, AfterWrite, IsRightRefusal, first_row};
+ghost use Rattle.mp_primary.specs.WriteTurns.{IsHeldUp, HasPutRow, AfterWrite, IsRightRefusal, former_to_keep};
 
 use crate::holders::has_row_of;
 use crate::primary::Primary;
@@ -207,7 +207,7 @@ impl<D: Disk> Primary<D> {
     // The version that a write replaced, where the session has kept none of its key.
     fn first_of(&self, number: u8, key: u32, former: Row) -> Option<Row>
         requires { (s : Session) × IsSessionOf self.now number s }
-        ensures { (s : Session) → IsSessionOf self.now number s → result ≡ first_row s.formers.items key former }
+        ensures { (s : Session) → IsSessionOf self.now number s → result ≡ former_to_keep s.formers.items key former }
     {
         if self.has_former(number, key) {
             None

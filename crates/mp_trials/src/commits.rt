@@ -5,7 +5,7 @@ ghost use Rattle.mp_core_trx.specs.declared.opening.TheConstants.{SLOTS};
 ghost use Rattle.mp_core_trx.specs.declared.event.TrxEvent.TheVariants.{StorePrep};
 ghost use Rattle.mp_core.specs.declared.event.CoreEvent.TheVariants.{Trx};
 ghost use Rattle.mp_shared.specs.Nodes.{HoldsPart, MayTake, Reached};
-ghost use Rattle.mp_trx_fusion.specs.Calls.{MayBegin, MayLook};
+ghost use Rattle.mp_trx_fusion.specs.Calls.{MayBeginTrx, MayLook};
 ghost use Rattle.mp_trx_fusion.specs.CommitLogs.{MayCommitAt, LogEndsAt};
 ghost use Rattle.mp_trials.specs.Versions.{MayCommitEach};
 
@@ -35,7 +35,7 @@ fn look_often(shared: &Shared, node: &mut Node, p: u8, id: TrxId)
     ensures node { (node.new.run ≡ node.old.run) × (node.new.frames ≡ node.old.frames) }
     ensures reached { Reached node.new }
     ensures may { MayTake (Trx (StorePrep p id)) node.new }
-    ensures others { (other : ℕ) → MayBegin node.old p other → MayBegin node.new p other }
+    ensures others { (other : ℕ) → MayBeginTrx node.old p other → MayBeginTrx node.new p other }
     ensures log { (llsn version : ℕ) → LogEndsAt node.old p llsn version → LogEndsAt node.new p llsn version }
 {
     for _ in 0..LOOKS {
@@ -55,7 +55,7 @@ fn publish_recorded(shared: &Shared, node: &mut Node, p: u8, id: TrxId, cts: u64
     ensures part { HoldsPart node.new p }
     ensures log { LogEndsAt node.new p mtr.new.llsn (id.version + 1) }
     ensures mtr { (mtr.new.node ≡ p) × (mtr.new.llsn ≡ mtr.old.llsn + 1) }
-    ensures others { (other : ℕ) → MayBegin node.old p other → MayBegin node.new p other }
+    ensures others { (other : ℕ) → MayBeginTrx node.old p other → MayBeginTrx node.new p other }
 {
     mtr.llsn += 1;
     mtr.records.clear();
@@ -70,14 +70,14 @@ fn publish_recorded(shared: &Shared, node: &mut Node, p: u8, id: TrxId, cts: u64
 fn commit_one(shared: &Shared, node: &mut Node, p: u8, version: u32, mtr: &mut Mtr) -> u64
     requires run { node.old.run ≡ shared.now }
     requires few { shared.now.opening.trx.begins ≤ SLOTS }
-    requires may { MayBegin node.old p version }
+    requires may { MayBeginTrx node.old p version }
     requires log { LogEndsAt node.old p mtr.old.llsn version }
     requires mtr { (mtr.old.node ≡ p) × (mtr.old.llsn < 200) }
     ensures node { (node.new.run ≡ node.old.run) × (node.new.frames ≡ node.old.frames) }
     ensures part { HoldsPart node.new p }
     ensures log { LogEndsAt node.new p mtr.new.llsn (version + 1) }
     ensures mtr { (mtr.new.node ≡ p) × (mtr.new.llsn ≡ mtr.old.llsn + 1) }
-    ensures others { (other : ℕ) → ¬ (other ≡ version) → MayBegin node.old p other → MayBegin node.new p other }
+    ensures others { (other : ℕ) → ¬ (other ≡ version) → MayBeginTrx node.old p other → MayBeginTrx node.new p other }
 {
     let Ok(Begun { id, view: _ }) = begin(shared, node, p, version) else {
         unreachable!()

@@ -19,7 +19,7 @@ use Rattle.mp_core.proofs.Law.{law}
 use Rattle.mp_shared.specs.Nodes.{NodeView, Reached, MayTake, changed_part, Took, TookUnseen}
 use Rattle.mp_shared.proofs.PageCalls.{with_part_twice}
 use Rattle.mp_shared.specs.Slots.{used_by, slot_after, next_slot, CanUse}
-use Rattle.mp_trx_fusion.specs.Calls.{with_trx, with_begin, MayBegin}
+use Rattle.mp_trx_fusion.specs.Calls.{with_trx, with_begin, MayBeginTrx}
 use Rattle.mp_trx_fusion.proofs.Sights.{newest_seen}
 
 slot_below : (b : Bool) (count slot : ℕ) → nat_lt count SLOTS ≡ b → (if b then Some count else None) ≡ Some slot → slot < SLOTS
@@ -40,7 +40,7 @@ all_used : (x : Option CorePart) (q : CorePart) → x ≡ Some q → slot_after 
 all_used x q has e = let count = length q.trx.begun in none_left (nat_lt count SLOTS) count refl (sym (ap (λ y. slot_after (used_by y)) has) ∙ e)
 
 -- which can't be where the run begins no more than that
-pub some_left : (v : NodeView) (p version : ℕ) → Reached v → MayBegin v p version → next_slot v p ≡ None → ¬ (v.run.opening.trx.begins ≤ SLOTS)
+pub some_left : (v : NodeView) (p version : ℕ) → Reached v → MayBeginTrx v p version → next_slot v p ≡ None → ¬ (v.run.opening.trx.begins ≤ SLOTS)
 some_left v p version r may none few =
     let o = v.run.opening in
     let w = run (core o) r.backed.0 in
@@ -57,7 +57,7 @@ some_left v p version r may none few =
     let count : length q.trx.begun ≡ length (begun_in w.trx p) = ap length begun in
     absurd (omega (arith, room, all, count, few))
 
-module _ (p version slot view : ℕ) (before mid : NodeView) (may : MayBegin before p version) (load : Took (Trx (LoadTso p)) before view mid) where
+module _ (p version slot view : ℕ) (before mid : NodeView) (may : MayBeginTrx before p version) (load : Took (Trx (LoadTso p)) before view mid) where
   -- its part once it loaded the TSO
   abbrev loaded_part : CorePart
   loaded_part = core_made (Trx (LoadTso p)) view load.note may.mine

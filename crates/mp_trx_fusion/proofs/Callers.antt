@@ -27,7 +27,7 @@ use Rattle.mp_core.specs.OwnMtrs.{owner_of}
 use Rattle.mp_core.proofs.Law.{law}
 use Rattle.mp_shared.specs.Nodes.{NodeView, Run, Reached, HoldsPart, MayTake, changed_part, first_node, node_without, node_of_one}
 use Rattle.mp_shared.proofs.Holding.{holds_the_part}
-use Rattle.mp_trx_fusion.specs.Calls.{with_trx, with_begin, MayBegin, MayLook}
+use Rattle.mp_trx_fusion.specs.Calls.{with_trx, with_begin, MayBeginTrx, MayLook}
 use Rattle.mp_trx_fusion.specs.CommitLogs.{MayCommitAt, LogEndsAt}
 use Rattle.mp_trx_fusion.proofs.CommitsAlone.{nobody_owns}
 
@@ -52,7 +52,7 @@ module _ (n later : NodeView) (p : ℕ) (f : TrxPart → TrxPart) (steps : ℕ) 
   pub may_take_else : (e : CoreEvent) → ¬ (core_node_of e ≡ p) → MayTake e n → MayTake e later
   may_take_else e other may = (may.0, part_else (core_node_of e) other ∙ may.1, may.2)
 
-  pub may_begin_else : (k version : ℕ) → ¬ (k ≡ p) → MayBegin n k version → MayBegin later k version
+  pub may_begin_else : (k version : ℕ) → ¬ (k ≡ p) → MayBeginTrx n k version → MayBeginTrx later k version
   may_begin_else k version other may = record { mine = may.mine; holds = part_else k other ∙ may.holds; node = may.node; above = may.above; within = may.within; fresh = may.fresh }
 
   pub may_look_else : (k : ℕ) (id : TrxId) → ¬ (k ≡ p) → MayLook n k id → MayLook later k id
@@ -72,7 +72,7 @@ module _ (n later : NodeView) (p : ℕ) (f : TrxPart → TrxPart) (steps : ℕ) 
   log_else k llsn version other log = record { mine = log.mine; holds = part_else k other ∙ log.holds; last = log.last; few = log.few; alone = log.alone; below = log.below }
 
   -- a version that was free stays so, where nothing is begun, or with another version
-  pub may_begin_here : (version : ℕ) → ((q : TrxPart) → (f q).opening ≡ q.opening) → ((q : TrxPart) (b : Begun) → IsIn b (f q).begun → IsIn b q.begun ⊎ (¬ (b.id.version ≡ version))) → MayBegin n p version → MayBegin later p version
+  pub may_begin_here : (version : ℕ) → ((q : TrxPart) → (f q).opening ≡ q.opening) → ((q : TrxPart) (b : Begun) → IsIn b (f q).begun → IsIn b q.begun ⊎ (¬ (b.id.version ≡ version))) → MayBeginTrx n p version → MayBeginTrx later p version
   may_begin_here version same keeps may =
       let q = may.mine in
       record {
@@ -144,13 +144,13 @@ may_free n p id r may llsn version log =
 
 module _ (n later : NodeView) (p : ℕ) where
   -- a transaction that began may be prepared
-  pub may_prepare : (version : ℕ) (b : Begun) → later ≡ with_trx n p (with_begin b) 2 → MayBegin n p version → MayTake (Trx (StorePrep p b.id)) later
+  pub may_prepare : (version : ℕ) (b : Begun) → later ≡ with_trx n p (with_begin b) 2 → MayBeginTrx n p version → MayTake (Trx (StorePrep p b.id)) later
   may_prepare version b is may =
       let q = may.mine in
       (record q { trx = with_begin b q.trx; ops = q.ops + 2 }, part_here n later p (with_begin b) _ is q may.holds, ((may.node, ((b.view, inl refl), shown_first b.id (shows Active b.id.version 0) q.trx.rows)), tt))
 
   -- and another begun with another version
-  pub may_begin_after : (version : ℕ) (b : Begun) → later ≡ with_trx n p (with_begin b) 2 → ¬ (b.id.version ≡ version) → MayBegin n p version → MayBegin later p version
+  pub may_begin_after : (version : ℕ) (b : Begun) → later ≡ with_trx n p (with_begin b) 2 → ¬ (b.id.version ≡ version) → MayBeginTrx n p version → MayBeginTrx later p version
   may_begin_after version b is other may =
       may_begin_here n later p (with_begin b) _ is version (λ q. refl)
       (λ q x has. ⊎_elim (λ (new : x ≡ b). inr (subst (λ (y : Begun). ¬ (y.id.version ≡ version)) (sym new) other)) (λ (old : IsIn x q.begun). inl old) has)
@@ -180,7 +180,7 @@ module _ (r : Run) (p : ℕ) (node : IsNode r.opening.trx p) where
   first_part : part_in (first_node r).parts p ≡ Some (core_part (core_start r.opening) p)
   first_part = part_in-whole (core_part (core_start r.opening)) (r.opening.trx.primaries + 1) p (omega (arith, node.1))
 
-  pub may_begin_first : (version : ℕ) → r.opening.trx.base.version < version → version ≤ r.opening.trx.base.version + r.opening.trx.begins → MayBegin (first_node r) p version
+  pub may_begin_first : (version : ℕ) → r.opening.trx.base.version < version → version ≤ r.opening.trx.base.version + r.opening.trx.begins → MayBeginTrx (first_node r) p version
   may_begin_first version above within = record { mine = core_part (core_start r.opening) p; holds = first_part; node = node; above = above; within = within; fresh = λ b has. absurd has }
 
   pub may_look_first : (id : TrxId) → IsNode r.opening.trx id.node → id.slot < SLOTS → MayLook (first_node r) p id
@@ -212,7 +212,7 @@ module _ (n later : NodeView) (p : ℕ) where
     below = log.below;
   }
 
-  pub may_begin_alone : later ≡ node_of_one p n → (version : ℕ) → MayBegin n p version → MayBegin later p version
+  pub may_begin_alone : later ≡ node_of_one p n → (version : ℕ) → MayBeginTrx n p version → MayBeginTrx later p version
   may_begin_alone is version may = record {
     mine = may.mine;
     holds = ap (λ (v : NodeView). part_in v.parts p) is ∙ part_in-only (λ k. k == p) n.parts p ∙ ap (λ b. if b then part_in n.parts p else None) (eq-eqb p p refl) ∙ may.holds;
@@ -222,7 +222,7 @@ module _ (n later : NodeView) (p : ℕ) where
     fresh = may.fresh;
   }
 
-  pub may_begin_without : later ≡ node_without p n → (k version : ℕ) → ¬ (k ≡ p) → MayBegin n k version → MayBegin later k version
+  pub may_begin_without : later ≡ node_without p n → (k version : ℕ) → ¬ (k ≡ p) → MayBeginTrx n k version → MayBeginTrx later k version
   may_begin_without is k version other may = record {
     mine = may.mine;
     holds = ap (λ (v : NodeView). part_in v.parts k) is ∙ part_in-only (λ j. not (j == p)) n.parts k ∙ ap (λ b. if not b then part_in n.parts k else None) (ne_eqb k p other) ∙ may.holds;
@@ -244,5 +244,5 @@ log_below n p llsn low high more log = record {
 }
 
 -- who may begin holds its part
-pub holds_part : (n : NodeView) (p version : ℕ) → MayBegin n p version → HoldsPart n p
+pub holds_part : (n : NodeView) (p version : ℕ) → MayBeginTrx n p version → HoldsPart n p
 holds_part n p version may = holds_the_part n p may.mine may.holds may.node

@@ -35,7 +35,7 @@ use Rattle.mp_core.specs.World.{core_node_of, core_part, core_made, core}
 use Rattle.mp_core.proofs.Law.{law}
 use Rattle.mp_shared.specs.Nodes.{NodeView, Reached, MayTake, changed_part, TookUnseen}
 use Rattle.mp_shared.proofs.Numbered.{carried, numbered}
-use Rattle.mp_trx_fusion.specs.Calls.{MayBegin, MayLook}
+use Rattle.mp_trx_fusion.specs.Calls.{MayBeginTrx, MayLook}
 use Rattle.mp_trx_fusion.specs.CommitLogs.{MayCommitAt, LogEndsAt}
 use Rattle.mp_trx_fusion.proofs.CommitsAlone.{IsCommitRecord, one_commit, none_restored}
 
@@ -218,7 +218,7 @@ module _ (n : NodeView) (reached : Reached n) (p : ℕ) (id : TrxId) (cts : ℕ)
         }
 
         -- what may be begun stays
-        pub may_begin_recorded : (other : ℕ) → MayBegin n p other → MayBegin later p other
+        pub may_begin_recorded : (other : ℕ) → MayBeginTrx n p other → MayBeginTrx later p other
         may_begin_recorded other begin =
             let is_mine : begin.mine ≡ may.mine = (let both = sym begin.holds ∙ may.holds in cc) in
             record {

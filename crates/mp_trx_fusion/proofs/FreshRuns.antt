@@ -7,7 +7,7 @@ use Rattle.mp_cells.specs.PageView.{PageView}
 use Rattle.mp_core.specs.declared.opening.CoreOpening.{CoreOpening}
 use Rattle.mp_shared.specs.Nodes.{Run, NodeView, first_node}
 pub use Rattle.mp_shared.proofs.FreshStores.{over_fresh, fresh_fits}
-use Rattle.mp_trx_fusion.specs.Calls.{MayBegin, MayLook}
+use Rattle.mp_trx_fusion.specs.Calls.{MayBeginTrx, MayLook}
 use Rattle.mp_trx_fusion.specs.CommitLogs.{LogEndsAt}
 use Rattle.mp_trx_fusion.proofs.Callers.{may_begin_first, may_look_first, log_first}
 
@@ -16,9 +16,9 @@ module _ (primaries begins : ℕ) (pages : List PageView) (r : Run) (node : Node
   of_fresh P h = subst P (sym opening_is) h
 
   -- a primary may begin with each version of the run
-  pub may_begin_fresh : (p version : ℕ) → 1 ≤ p → p ≤ primaries → 0 < version → version ≤ begins → MayBegin node p version
+  pub may_begin_fresh : (p version : ℕ) → 1 ≤ p → p ≤ primaries → 0 < version → version ≤ begins → MayBeginTrx node p version
   may_begin_fresh p version low high above within =
-      subst (λ n. MayBegin n p version) (sym node_is)
+      subst (λ n. MayBeginTrx n p version) (sym node_is)
       (may_begin_first r p (of_fresh (λ o. IsNode o.trx p) (low, high)) version (of_fresh (λ o. o.trx.base.version < version) above) (of_fresh (λ o. version ≤ o.trx.base.version + o.trx.begins) (omega arith)))
 
   -- and look at each slot of each primary

@@ -12,7 +12,7 @@ use Rattle.mp_shared.specs.Nodes.{Run, NodeView, opening_of, first_node, node_of
 use Rattle.mp_shared.specs.Slots.{next_slot}
 use Rattle.mp_trx_fusion.specs.declared.slot_status.SlotStatus.TheVariants.{Prep, Committed, Other}
 use Rattle.mp_core_trx.specs.Events.{with_draw}
-use Rattle.mp_trx_fusion.specs.Calls.{with_trx, with_begin, tso_of, MayBegin}
+use Rattle.mp_trx_fusion.specs.Calls.{with_trx, with_begin, tso_of, MayBeginTrx}
 use Rattle.mp_trx_fusion.specs.Statuses.{status_of}
 
 abbrev first : TrxId
@@ -65,14 +65,14 @@ module _ (r : Run) where
   one_drawn = refl
 
   -- a version is used once, and the base version by nobody
-  may_begin : MayBegin fresh 1 1
+  may_begin : MayBeginTrx fresh 1 1
   may_begin = record { mine = _; holds = refl; node = (lit≤ tt, lit≤ tt); above = lit< tt; within = lit≤ tt; fresh = λ b has. absurd has }
 
-  not_again : MayBegin one_begun 1 1 → ⊥
+  not_again : MayBeginTrx one_begun 1 1 → ⊥
   not_again may =
       let has : Some one_part ≡ Some may.mine = may.holds in
       let is : one_part ≡ may.mine = cc in
       subst (λ (q : CorePart). (b : Begun) → IsIn b q.trx.begun → ¬ (b.id.version ≡ 1)) (sym is) may.fresh (begun_of first 0) (inl refl) refl
 
-  not_the_base : MayBegin fresh 1 0 → ⊥
+  not_the_base : MayBeginTrx fresh 1 0 → ⊥
   not_the_base may = let above = may.above in absurd (omega arith)

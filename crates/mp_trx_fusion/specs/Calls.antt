@@ -44,7 +44,7 @@ abbrev pub IsNextTimestamp : NodeView → ℕ → Type 0
 IsNextTimestamp n cts = (events : List CoreEvent) × AllAllowed (core n.run.opening) events × ViewAgrees (core_part (run (core n.run.opening) events)) n.parts × (cts ≡ (run (core n.run.opening) events).trx.tso + 1)
 
 -- The primary may begin a transaction with this version
-pub record MayBegin (n : NodeView) (p version : ℕ) : Type 0 where
+pub record MayBeginTrx (n : NodeView) (p version : ℕ) : Type 0 where
   pub mine : CorePart
   pub holds : part_in n.parts p ≡ Some mine
   pub node : IsNode mine.trx.opening p

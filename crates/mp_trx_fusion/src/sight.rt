@@ -4,7 +4,7 @@ ghost use Rattle.mp_core_trx.specs.declared.opening.TheConstants.{SLOTS};
 ghost use Rattle.mp_shared.specs.Nodes.{HoldsAll, HoldsPart, Reached};
 ghost use Rattle.mp_shared.specs.Slots.{next_slot, CanUse};
 ghost use Rattle.mp_core_trx.specs.Events.{with_seen};
-ghost use Rattle.mp_trx_fusion.specs.Calls.{with_trx, with_begin, Knows, tso_of, MayBegin, no_slot_for};
+ghost use Rattle.mp_trx_fusion.specs.Calls.{with_trx, with_begin, Knows, tso_of, MayBeginTrx, no_slot_for};
 
 use mp_core_trx::Begun;
 use mp_model::{NotYet, TrxId, WordKind};
@@ -29,7 +29,7 @@ pub fn view(shared: &Shared, node: &mut Node, p: u8) -> u64
 /// many transactions as a primary has slots; nothing changed then. It names the least view of `p`, which no step reads yet.
 pub fn begin(shared: &Shared, node: &mut Node, p: u8, version: u32) -> Result<Begun, NotYet>
     requires run { node.old.run ≡ shared.now }
-    requires may { MayBegin node.old p version }
+    requires may { MayBeginTrx node.old p version }
     ensures begun { IfOk result (λ b. (b.id.node ≡ p) × (b.id.version ≡ version) × (next_slot node.old p ≡ Some b.id.slot) × CanUse node.old p b.id.slot) }
     ensures becomes { IfOk result (λ b. node.new ≡ with_trx node.old p (with_begin b) 2) }
     ensures newest { IfOk result (λ b. Knows node.old p b.view) }
