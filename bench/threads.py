@@ -5,9 +5,11 @@ usage: threads.py [TIMES]
 
 In turn, TIMES times (5): `mp run 42`, whose 752 commits come from four primaries, and a bare loop of 752 commits by four
 threads on four files of their own, each commit two writes with a sync behind each. Then `mp run` of one primary and of four
-over files in memory whose statements read a row again and again, and of scripts of growing length."""
+over files in memory whose statements read a row again and again, and of scripts of growing length. The time of reads is that
+of the whole run, less that of the same run without them: so the script is read and the replies are printed in it."""
 import os
 import resource
+import statistics
 import subprocess
 import sys
 import tempfile
@@ -82,9 +84,10 @@ def main():
     with tempfile.TemporaryDirectory(dir="/dev/shm") as folder:
         for primaries in (1, 2, 4):
             each = 9900 // primaries
-            base = min(run_from(folder, reads(primaries, 0)) for _ in range(times))
-            took = min(run_from(folder, reads(primaries, each)) for _ in range(times)) - base
-            print(f"run over memory, {primaries} primaries, {each} gets each: {each / max(took, 1e-6):.0f} statements a second a primary")
+            base = statistics.median(run_from(folder, reads(primaries, 0)) for _ in range(8 * times))
+            took = sorted(run_from(folder, reads(primaries, each)) - base for _ in range(8 * times))
+            best, middle = (each / max(it, 1e-6) for it in (took[0], took[4 * times]))
+            print(f"run over memory, {primaries} primaries, {each} gets each: {middle:.0f} statements a second a primary, at best {best:.0f}")
         print(f"the most memory that a run took: {resource.getrusage(resource.RUSAGE_CHILDREN).ru_maxrss // 1024} MB")
 
 

@@ -46,7 +46,8 @@ all_one P [] x all one = (one, tt)
 all_one P (y ∷ ys) x all one = (all.0, all_one P ys x all.1 one)
 
 module _ {D : Type 0} (g : Ghosts D) (work : Work) (run : Run) where
-  dealt_one : (prs : List (PrimaryView D)) (rs : List Runner) (pr : PrimaryView D) (r : Runner) → AllDealt g work run prs rs → StandsAlone g work run pr r.node [] → AllDealt g work run (prs ++ pr ∷ []) (rs ++ r ∷ [])
+  dealt_one : (prs : List (PrimaryView D)) (rs : List Runner) (pr : PrimaryView D) (r : Runner) → AllDealt g work run prs rs
+      → StandsAlone g work run pr r.node [] → AllDealt g work run (prs ++ pr ∷ []) (rs ++ r ∷ [])
   dealt_one [] [] pr r all one = (one, tt)
   dealt_one [] (y ∷ ys) pr r all one = absurd all
   dealt_one (x ∷ xs) [] pr r all one = absurd all
@@ -54,12 +55,16 @@ module _ {D : Type 0} (g : Ghosts D) (work : Work) (run : Run) where
 
   pub dealt_next : (prs : List (PrimaryView D)) (k : ℕ) (rs : List Runner) (pr : PrimaryView D) (r : Runner) → slice_get prs k ≡ Some pr
       → AllDealt g work run (take k prs) rs → StandsAlone g work run pr r.node [] → AllDealt g work run (take (k + 1) prs) (rs ++ r ∷ [])
-  dealt_next prs k rs pr r is all one = subst (λ (l : List (PrimaryView D)). AllDealt g work run l (rs ++ r ∷ [])) (sym (take_next prs k pr is)) (dealt_one (take k prs) rs pr r all one)
+  dealt_next prs k rs pr r is all one = subst (λ (l : List (PrimaryView D)). AllDealt g work run l (rs ++ r ∷ []))
+      (sym (take_next prs k pr is)) (dealt_one (take k prs) rs pr r all one)
 
-  pub dealt_whole : (prs : List (PrimaryView D)) (k : ℕ) (rs : List Runner) → k ≡ length prs → AllDealt g work run (take k prs) rs → AllDealt g work run prs rs
-  dealt_whole prs k rs is all = subst (λ (l : List (PrimaryView D)). AllDealt g work run l rs) (ap (λ (n : ℕ). take n prs) is ∙ take_whole prs) all
+  pub dealt_whole : (prs : List (PrimaryView D)) (k : ℕ) (rs : List Runner) → k ≡ length prs → AllDealt g work run (take k prs) rs
+      → AllDealt g work run prs rs
+  dealt_whole prs k rs is all = subst (λ (l : List (PrimaryView D)). AllDealt g work run l rs)
+      (ap (λ (n : ℕ). take n prs) is ∙ take_whole prs) all
 
-  pub all_may_run : (prs : List (PrimaryView D)) (rs : List Runner) → AllDealt g work run prs rs → AllByRecursion BeginsSo rs → AllMayRun g run prs rs
+  pub all_may_run : (prs : List (PrimaryView D)) (rs : List Runner) → AllDealt g work run prs rs → AllByRecursion BeginsSo rs
+      → AllMayRun g run prs rs
   all_may_run [] [] all begins = tt
   all_may_run [] (r ∷ rs) all begins = absurd all
   all_may_run (pr ∷ prs) [] all begins = absurd all

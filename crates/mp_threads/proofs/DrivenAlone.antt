@@ -26,9 +26,15 @@ module _ {D : Type 0} (g : Ghosts D) (run : Run) where
   -- ---- one behind another
 
   pub drove_nothing : (pr : PrimaryView D) (r : Runner) → MayRun g run pr r → DroveAlone g run pr pr r r
-  drove_nothing pr r may = record { on = GoesAlone-refl g run pr r.node; same = IsSameMember-refl g pr; sessions = may.sessions; enough = may.enough }
+  drove_nothing pr r may = record {
+    on = GoesAlone-refl g run pr r.node;
+    same = IsSameMember-refl g pr;
+    sessions = may.sessions;
+    enough = may.enough;
+  }
 
-  pub drove_both : (old mid new : PrimaryView D) (before at after : Runner) → DroveAlone g run old mid before at → DroveAlone g run mid new at after → DroveAlone g run old new before after
+  pub drove_both : (old mid new : PrimaryView D) (before at after : Runner) → DroveAlone g run old mid before at
+      → DroveAlone g run mid new at after → DroveAlone g run old new before after
   drove_both old mid new before at after first then_ = record {
     on = GoesAlone-trans g run old mid new before.node at.node after.node first.on then_.on;
     same = IsSameMember-trans g old mid new first.same then_.same;
@@ -36,7 +42,8 @@ module _ {D : Type 0} (g : Ghosts D) (run : Run) where
     enough = then_.enough;
   }
 
-  pub may_still : (old new : PrimaryView D) (before after : Runner) → MayRun g run old before → DroveAlone g run old new before after → MayRun g run new after
+  pub may_still : (old new : PrimaryView D) (before after : Runner) → MayRun g run old before → DroveAlone g run old new before after
+      → MayRun g run new after
   may_still old new before after may drove = record {
     stands = stands_on g run old new before.node after.node drove.on may.stands;
     sessions = drove.sessions;
@@ -45,7 +52,8 @@ module _ {D : Type 0} (g : Ghosts D) (run : Run) where
 
   -- ---- at its end
 
-  pub ran_through : (old new : PrimaryView D) (before after : Runner) → MayRun g run old before → DroveAlone g run old new before after → IsThrough new → RanAlone g run old new before after
+  pub ran_through : (old new : PrimaryView D) (before after : Runner) → MayRun g run old before → DroveAlone g run old new before after
+      → IsThrough new → RanAlone g run old new before after
   ran_through old new before after may drove through = record {
     same = drove.same;
     has_only = (stands_on g run old new before.node after.node drove.on may.stands).2.has_only;
@@ -53,7 +61,8 @@ module _ {D : Type 0} (g : Ghosts D) (run : Run) where
     through = λ enough. through;
   }
 
-  pub ran_short : (old new : PrimaryView D) (before after : Runner) → IsSameMember g old new → HasOnly run new.number after.node → after.short ≡ true → RanAlone g run old new before after
+  pub ran_short : (old new : PrimaryView D) (before after : Runner) → IsSameMember g old new → HasOnly run new.number after.node
+      → after.short ≡ true → RanAlone g run old new before after
   ran_short old new before after same only short = record {
     same = same;
     has_only = only;
@@ -69,16 +78,19 @@ module _ {D : Type 0} (g : Ghosts D) (run : Run) where
   module _ (old new : PrimaryView D) (before after : NodeView) where
     -- where there was no memory for it
     abbrev IsStill : Type 0
-    IsStill = (new.media ≡ old.media) × (new.down ≡ old.down) × (new.number ≡ old.number) × (new.work ≡ old.work) × (new.book.answers.items ≡ old.book.answers.items)
+    IsStill = (new.media ≡ old.media) × (new.down ≡ old.down) × (new.number ≡ old.number) × (new.work ≡ old.work)
+        × (new.book.answers.items ≡ old.book.answers.items)
 
     told_still : after ≡ before → new.down ≡ old.down → new.number ≡ old.number → IsDownAsTold old before → IsDownAsTold new after
     told_still node down number told q has =
         told q (ap (λ (n : NodeView). part_in n.parts old.number) (sym node) ∙ ap (part_in after.parts) (sym number) ∙ has) ∙ sym down
 
     only_as : after ≡ before → new.number ≡ old.number → HasOnly run old.number before → HasOnly run new.number after
-    only_as node number only = subst (λ (k : ℕ). HasOnly run k after) (sym number) (subst (λ (n : NodeView). HasOnly run old.number n) (sym node) only)
+    only_as node number only = subst (λ (k : ℕ). HasOnly run k after) (sym number)
+        (subst (λ (n : NodeView). HasOnly run old.number n) (sym node) only)
 
-    goes_without : (after ≡ before) × StandsWith g run new after → ((entries : List Entry) → PrimaryAgreesIn g old entries before → PrimaryAgreesIn g new entries after)
+    goes_without : (after ≡ before) × StandsWith g run new after
+        → ((entries : List Entry) → PrimaryAgreesIn g old entries before → PrimaryAgreesIn g new entries after)
         → IsStill → ((number : ℕ) → MayTakeTurn old number → MayTakeTurn new number) → GoesAlone g run old new before after
     goes_without left kept still sessions work entries s = (
       [],
@@ -96,13 +108,16 @@ module _ {D : Type 0} (g : Ghosts D) (run : Run) where
     )
 
     module _ (session : Option ℕ) where
-      pub turn_goes : (r : Result Turn Memory) → IfOk r (TakesTurn g run old new before after session) → OnErr r ((after ≡ before) × StandsWith g run new after)
+      pub turn_goes : (r : Result Turn Memory) → IfOk r (TakesTurn g run old new before after session)
+          → OnErr r ((after ≡ before) × StandsWith g run new after)
           → OnErr r ((entries : List Entry) → PrimaryAgreesIn g old entries before → PrimaryAgreesIn g new entries after)
-          → OnErr r IsStill → OnErr r ((number : ℕ) → MayTakeTurn old number → MayTakeTurn new number) → GoesAlone g run old new before after
+          → OnErr r IsStill → OnErr r ((number : ℕ) → MayTakeTurn old number → MayTakeTurn new number)
+          → GoesAlone g run old new before after
       turn_goes (Ok turn) takes left kept still sessions = turn_alone g run old new before after session turn takes
       turn_goes (Err memory) takes left kept still sessions = goes_without left kept still sessions
 
-      pub turn_same : (r : Result Turn Memory) → IfOk r (TakesTurn g run old new before after session) → OnErr r IsStill → IsSameMember g old new
+      pub turn_same : (r : Result Turn Memory) → IfOk r (TakesTurn g run old new before after session) → OnErr r IsStill
+          → IsSameMember g old new
       turn_same (Ok turn) takes still = same_behind g old new run before after session turn takes
       turn_same (Err memory) takes still = same_without g old new still.0 still.1 still.2 still.3
 
@@ -112,7 +127,8 @@ module _ {D : Type 0} (g : Ghosts D) (run : Run) where
       ended_by turns.Done takes none = through_done g old new run before after session turns.Done takes none refl
       ended_by (turns.Stopped by) takes none = λ up. (takes.stopped.0 by refl).1 (sym (takes.stopped.0 by refl).0 ∙ up)
 
-      pub turn_ends : (r : Result Turn Memory) → IfOk r (TakesTurn g run old new before after session) → session ≡ None → IfOk r (EndsBy new)
+      pub turn_ends : (r : Result Turn Memory) → IfOk r (TakesTurn g run old new before after session) → session ≡ None
+          → IfOk r (EndsBy new)
       turn_ends (Ok turn) takes none = ended_by turn takes none
       turn_ends (Err memory) takes none = tt
 

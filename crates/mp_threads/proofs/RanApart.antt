@@ -17,13 +17,15 @@ use Rattle.mp_threads.proofs.Gathered.{ends_apart}
 
 module _ {D : Type 0} (g : Ghosts D) where
   -- of no primary nothing is left
-  pub none_ran : (run : Run) (prs : List (PrimaryView D)) (rs : List Runner) → length prs ≡ 0 → AllMayRun g run prs rs → AllRanAlone g run prs prs rs rs
+  pub none_ran : (run : Run) (prs : List (PrimaryView D)) (rs : List Runner) → length prs ≡ 0 → AllMayRun g run prs rs
+      → AllRanAlone g run prs prs rs rs
   none_ran run [] [] none may = tt
   none_ran run [] (r ∷ rs) none may = absurd may
   none_ran run (pr ∷ prs) rs none may = absurd (omega (arith, none))
 
   module _ (run : Run) where
-    pub all_may_join : (olds news : List (PrimaryView D)) (befores afters : List Runner) → AllRanAlone g run olds news befores afters → AllByRecursion (λ r. MayJoin run r.node) afters
+    pub all_may_join : (olds news : List (PrimaryView D)) (befores afters : List Runner) → AllRanAlone g run olds news befores afters
+        → AllByRecursion (λ r. MayJoin run r.node) afters
     all_may_join [] [] [] [] ran = tt
     all_may_join (old ∷ olds) (new ∷ news) (before ∷ befores) (after ∷ afters) ran =
         (record { its_run = ran.0.has_only.its_run; frames = ran.0.has_only.frames }, all_may_join olds news befores afters ran.1)
@@ -34,7 +36,8 @@ module _ {D : Type 0} (g : Ghosts D) where
     all_may_join (old ∷ olds) (new ∷ news) [] afters ran = absurd ran
     all_may_join (old ∷ olds) (new ∷ news) (before ∷ befores) [] ran = absurd ran
 
-    pub as_many_ran : (olds news : List (PrimaryView D)) (befores afters : List Runner) → AllRanAlone g run olds news befores afters → length news ≡ length olds
+    pub as_many_ran : (olds news : List (PrimaryView D)) (befores afters : List Runner) → AllRanAlone g run olds news befores afters
+        → length news ≡ length olds
     as_many_ran [] [] [] [] ran = refl
     as_many_ran (old ∷ olds) (new ∷ news) (before ∷ befores) (after ∷ afters) ran = ap suc (as_many_ran olds news befores afters ran.1)
     as_many_ran [] [] [] (after ∷ afters) ran = absurd ran
@@ -44,11 +47,14 @@ module _ {D : Type 0} (g : Ghosts D) where
     as_many_ran (old ∷ olds) (new ∷ news) [] afters ran = absurd ran
     as_many_ran (old ∷ olds) (new ∷ news) (before ∷ befores) [] ran = absurd ran
 
-    pub each_ran : (olds news : List (PrimaryView D)) (befores afters : List Runner) → AllRanAlone g run olds news befores afters → (place : ℕ) → At (IsSameMember g) olds news place
+    pub each_ran : (olds news : List (PrimaryView D)) (befores afters : List Runner) → AllRanAlone g run olds news befores afters
+        → (place : ℕ) → At (IsSameMember g) olds news place
     each_ran [] [] [] [] ran place x y was is = absurd (not_some x was)
     each_ran (old ∷ olds) (new ∷ news) (before ∷ befores) (after ∷ afters) ran zero x y was is =
-        subst (λ (p : PrimaryView D). IsSameMember g p y) (some_is old x was) (subst (λ (p : PrimaryView D). IsSameMember g old p) (some_is new y is) ran.0.same)
-    each_ran (old ∷ olds) (new ∷ news) (before ∷ befores) (after ∷ afters) ran (suc place) x y was is = each_ran olds news befores afters ran.1 place x y was is
+        subst (λ (p : PrimaryView D). IsSameMember g p y) (some_is old x was)
+        (subst (λ (p : PrimaryView D). IsSameMember g old p) (some_is new y is) ran.0.same)
+    each_ran (old ∷ olds) (new ∷ news) (before ∷ befores) (after ∷ afters) ran (suc place) x y was is = each_ran olds news befores
+        afters ran.1 place x y was is
     each_ran [] [] [] (after ∷ afters) ran place x y was is = absurd ran
     each_ran [] [] (before ∷ befores) afters ran place x y was is = absurd ran
     each_ran [] (new ∷ news) befores afters ran place x y was is = absurd ran
@@ -94,7 +100,8 @@ module _ {D : Type 0} (g : Ghosts D) where
       pub same_apart : AreSameMembers g old new
       same_apart = same_ran old new old.shared befores afters (shared ∙ dealt.shared) (idle ∙ dealt.idle) ran_apart
 
-      pub ended_apart : HasLeft old.node (length old.primaries.items) mid.node → ((work : Work) → RunsApart g work old [] → AllDealt g work old.shared old.primaries.items befores)
+      pub ended_apart : HasLeft old.node (length old.primaries.items) mid.node
+          → ((work : Work) → RunsApart g work old [] → AllDealt g work old.shared old.primaries.items befores)
           → list_any (λ r. r.short) afters ≡ false → new.node ≡ joined_runners mid.node afters → Reached new.node → EndsApart g old new
       ended_apart left all enough node reached work runs =
           ends_apart g work old new mid.node befores afters runs left (all work runs) ran_apart enough (shared ∙ dealt.shared) node reached

@@ -74,44 +74,34 @@ fn checked(change: &Change) -> Option<Change>
     ensures { IfSome result HasCells }
 {
     match change {
-        Change::MakeLeaf { low, high, rows } => match checked_rows(rows) {
-            Some(rows) => Some(Change::MakeLeaf {
-                low: *low,
-                high: *high,
-                rows,
-            }),
-            None => None,
-        },
+        Change::MakeLeaf { low, high, rows } => Some(Change::MakeLeaf {
+            low: *low,
+            high: *high,
+            rows: checked_rows(rows)?,
+        }),
         Change::MakeInner {
             low,
             high,
             children,
-        } => match checked_children(children) {
-            Some(children) => Some(Change::MakeInner {
-                low: *low,
-                high: *high,
-                children,
-            }),
-            None => None,
-        },
+        } => Some(Change::MakeInner {
+            low: *low,
+            high: *high,
+            children: checked_children(children)?,
+        }),
         Change::MakeUndo => Some(Change::MakeUndo),
-        Change::PutRow { row } => match checked_row(row) {
-            Some(row) => Some(Change::PutRow { row }),
-            None => None,
-        },
-        Change::RestoreRow { row } => match checked_row(row) {
-            Some(row) => Some(Change::RestoreRow { row }),
-            None => None,
-        },
+        Change::PutRow { row } => Some(Change::PutRow {
+            row: checked_row(row)?,
+        }),
+        Change::RestoreRow { row } => Some(Change::RestoreRow {
+            row: checked_row(row)?,
+        }),
         Change::Cut { from } => Some(Change::Cut { from: *from }),
-        Change::PutChild { child } => match checked_child(child) {
-            Some(child) => Some(Change::PutChild { child }),
-            None => None,
-        },
-        Change::PutUndo { row } => match checked_row(row) {
-            Some(row) => Some(Change::PutUndo { row }),
-            None => None,
-        },
+        Change::PutChild { child } => Some(Change::PutChild {
+            child: checked_child(child)?,
+        }),
+        Change::PutUndo { row } => Some(Change::PutUndo {
+            row: checked_row(row)?,
+        }),
         Change::TakePage { page } => Some(Change::TakePage { page: *page }),
     }
 }

@@ -31,11 +31,13 @@ loop-place-preserved g c =
     let rest = c.in_ok-runner.ensures.rest in
     record {
       rest = record { shared = l.invariant.rest.shared; primaries = l.invariant.rest.primaries; idle = l.invariant.rest.idle };
-      left = subst (λ (n : NodeView). HasLeft m.node (l.place + 1) n) (sym rest.0) (left_next m.node l.place l.members.node l.invariant.left (subst Reached rest.0 rest.1));
+      left = subst (λ (n : NodeView). HasLeft m.node (l.place + 1) n) (sym rest.0)
+          (left_next m.node l.place l.members.node l.invariant.left (subst Reached rest.0 rest.1));
       dealt = λ work runs.
           let alone = dealt g.D.Disk work m runs l.place l.members.node l.invariant.left pr.0 pr.1 (subst Reached own.0 own.1) in
           let stands = subst (λ (n : NodeView). StandsAlone g.D.Disk work m.shared pr.0 n []) (sym own.0) alone in
-          subst (λ (rs : List Runner). AllDealt g.D.Disk work m.shared (take (l.place + 1) m.primaries.items) rs) (sym c.in_ok-push.ensures.items)
+          subst (λ (rs : List Runner). AllDealt g.D.Disk work m.shared (take (l.place + 1) m.primaries.items) rs)
+          (sym c.in_ok-push.ensures.items)
           (dealt_next g.D.Disk work m.shared m.primaries.items l.place l.runners.items pr.0 r pr.1 (l.invariant.dealt work runs) stands);
       begins = subst (λ (rs : List Runner). AllByRecursion BeginsSo rs) (sym c.in_ok-push.ensures.items)
           (all_one BeginsSo l.runners.items r l.invariant.begins (c.in_ok-runner.ensures.sessions, c.in_ok-runner.ensures.enough));

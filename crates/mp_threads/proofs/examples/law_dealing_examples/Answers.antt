@@ -66,7 +66,8 @@ pub returns-clause-dealt : goal.returns-clause-dealt
 returns-clause-dealt g c = λ m. record { shared = refl; primaries = refl; idle = refl }
 
 pub returns-clause-not_dealt : goal.returns-clause-not_dealt
-returns-clause-not_dealt g c = λ old new pr one none dealt. one_is_none old.primaries.items pr one (ap (λ p. p.items) (sym dealt.primaries) ∙ none)
+returns-clause-not_dealt g c = λ old new pr one none dealt. one_is_none old.primaries.items pr one
+    (ap (λ p. p.items) (sym dealt.primaries) ∙ none)
 
 pub returns-clause-none_dealt : goal.returns-clause-none_dealt
 returns-clause-none_dealt g c = λ work run. tt

@@ -14,10 +14,13 @@ loop-gathered-preserved c =
     let removed = c.remove.ensures in
     let joined = c.gather_one-short.ensures in
     record {
-      node = subst (λ (n : NodeView). MayJoin c.args.shared.now n) (sym joined.node) (record { its_run = l.invariant.node.its_run; frames = l.invariant.node.frames });
+      node = subst (λ (n : NodeView). MayJoin c.args.shared.now n) (sym joined.node)
+          (record { its_run = l.invariant.node.its_run; frames = l.invariant.node.frames });
       may = rest_may_join rest r c.args.shared.now rs removed.items (grind arith) l.invariant.may;
       reached = joined.reached;
-      joined = first_joined rest r l.node c.gather_one-short.new.node joined.node rs (grind arith) removed.value removed.items ∙ l.invariant.joined;
-      short = first_short rest r l.short (l.short || c.gather_one-short.result) (ap (λ b. l.short || b) joined.short) rs (grind arith) removed.value removed.items ∙ l.invariant.short;
+      joined = first_joined rest r l.node c.gather_one-short.new.node joined.node rs (grind arith) removed.value
+          removed.items ∙ l.invariant.joined;
+      short = first_short rest r l.short (l.short || c.gather_one-short.result) (ap (λ b. l.short || b) joined.short) rs (grind arith)
+          removed.value removed.items ∙ l.invariant.short;
       left = search rules;
     }

@@ -16,13 +16,15 @@ pub loop-preserved-in-Continue-1 : goal.loop-preserved-in-Continue-1
 loop-preserved-in-Continue-1 g c = record {
   can_next = tt;
   is_finite = tt;
-  drove = drove_both g.D.Disk c.args.shared.now c.args.primary.now c.loop.primary c.try_at.new.primary c.args.runner.now c.loop.runner c.try_at.new.runner
+  drove = drove_both g.D.Disk c.args.shared.now c.args.primary.now c.loop.primary c.try_at.new.primary c.args.runner.now c.loop.runner
+      c.try_at.new.runner
       c.loop.invariant.drove c.try_at.ensures.drove;
 }
 
 pub returns-in_err-try_at-in-Try-clause-drove : goal.returns-in_err-try_at-in-Try-clause-drove
 returns-in_err-try_at-in-Try-clause-drove g c =
-    drove_both g.D.Disk c.args.shared.now c.args.primary.now c.loop.primary c.try_at.new.primary c.args.runner.now c.loop.runner c.try_at.new.runner
+    drove_both g.D.Disk c.args.shared.now c.args.primary.now c.loop.primary c.try_at.new.primary c.args.runner.now c.loop.runner
+    c.try_at.new.runner
     c.loop.invariant.drove c.try_at.ensures.drove
 
 pub loop-preserved-in-Forget : goal.loop-preserved-in-Forget
@@ -41,18 +43,21 @@ loop-preserved-in-Forget g c =
 
 pub returns-in_err-rest-in-Over-clause-drove : goal.returns-in_err-rest-in-Over-clause-drove
 returns-in_err-rest-in-Over-clause-drove g c =
-    drove_both g.D.Disk c.args.shared.now c.args.primary.now c.loop.primary c.rest.new.primary c.args.runner.now c.loop.runner c.rest.new.runner
+    drove_both g.D.Disk c.args.shared.now c.args.primary.now c.loop.primary c.rest.new.primary c.args.runner.now c.loop.runner
+    c.rest.new.runner
     c.loop.invariant.drove c.rest.ensures.drove
 
 pub returns-then-branch-clause-drove : goal.returns-then-branch-clause-drove
 returns-then-branch-clause-drove g c =
-    drove_both g.D.Disk c.args.shared.now c.args.primary.now c.loop.primary c.rest.new.primary c.args.runner.now c.loop.runner c.rest.new.runner
+    drove_both g.D.Disk c.args.shared.now c.args.primary.now c.loop.primary c.rest.new.primary c.args.runner.now c.loop.runner
+    c.rest.new.runner
     c.loop.invariant.drove c.rest.ensures.drove
 
 pub loop-preserved : goal.loop-preserved
 loop-preserved g c = record {
   can_next = tt;
   is_finite = tt;
-  drove = drove_both g.D.Disk c.args.shared.now c.args.primary.now c.loop.primary c.rest.new.primary c.args.runner.now c.loop.runner c.rest.new.runner
+  drove = drove_both g.D.Disk c.args.shared.now c.args.primary.now c.loop.primary c.rest.new.primary c.args.runner.now c.loop.runner
+      c.rest.new.runner
       c.loop.invariant.drove c.rest.ensures.drove;
 }

@@ -8,7 +8,8 @@ use Rattle.mp_threads.proofs.on_thread.try_at.Goals as goal
 pub returns-in-Answered : goal.returns-in-Answered
 returns-in-Answered g c =
     let tries = c.args.runner.now.schedule.tries.items in
-    let over = sessions_stand tries c.finish.new.self.tries.items c.args.place Over c.requires.place c.finish.ensures c.requires.may.sessions in
+    let over = sessions_stand tries c.finish.new.self.tries.items c.args.place Over c.requires.place c.finish.ensures
+    c.requires.may.sessions in
     record {
       drove = record {
         on = c.take_turn.ensures.on;
@@ -25,7 +26,8 @@ returns-in-Waiting g c =
       drove = record {
         on = c.take_turn.ensures.on;
         same = c.take_turn.ensures.same;
-        sessions = sessions_stand tries c.wait.new.self.tries.items c.args.place Waiting c.requires.place c.wait.ensures c.requires.may.sessions;
+        sessions = sessions_stand tries c.wait.new.self.tries.items c.args.place Waiting c.requires.place c.wait.ensures
+            c.requires.may.sessions;
         enough = c.requires.may.enough;
       };
     }
@@ -37,7 +39,8 @@ returns-in-Done g c =
       drove = record {
         on = c.take_turn.ensures.on;
         same = c.take_turn.ensures.same;
-        sessions = sessions_stand tries c.finish-in-Done.new.self.tries.items c.args.place Over c.requires.place c.finish-in-Done.ensures c.requires.may.sessions;
+        sessions = sessions_stand tries c.finish-in-Done.new.self.tries.items c.args.place Over c.requires.place
+            c.finish-in-Done.ensures c.requires.may.sessions;
         enough = c.requires.may.enough;
       };
     }
