@@ -6,6 +6,7 @@ use Rattle.mp_model.specs.declared.transcripts.Transcript.{Transcript}
 use Rattle.mp_outside.specs.declared.disks.Disk.{Ghosts}
 use Rattle.mp_files.specs.declared.disks.Disks.{Disks}
 use Rattle.mp_files.specs.Nine.{AllTell, Every, as_read}
+use Rattle.mp_files.proofs.Nines.{KeptNine-refl}
 use Rattle.mp_report.specs.Readable.{IsReadable}
 use Rattle.mp_script.specs.declared.statements.Script.{Script}
 use Rattle.mp_script.specs.Faults.{FaultAt, script_fault}
@@ -41,7 +42,7 @@ module _ {D : Type 0} (g : Ghosts D) (in_mode : Mode) where
 
   says_fault : (bytes : List ℕ) (found : FaultAt) (disks : Disks D) (output : Output) → PrintsFault found output → script_fault bytes ≡ Some found
       → BytesSay g in_mode bytes disks disks output.status (text_of output.printed)
-  says_fault bytes found disks output (inl says) first = rw says.0 (record { found = found; first = first; printed = says.1 })
+  says_fault bytes found disks output (inl says) first = rw says.0 (record { found = found; first = first; printed = says.1 }, KeptNine-refl g disks)
   says_fault bytes found disks output (inr says) first = rw says.0 says.1
 
   says_memory : (bytes : List ℕ) (disks : Disks D) (output : Output) → Prints Memory no_memory_text output → BytesSay g in_mode bytes disks disks output.status (text_of output.printed)

@@ -81,14 +81,14 @@ module _ {D : Type 0} (g : Ghosts D) (source : SourceUse) (sink sink_after : ℕ
   source_answered : (in_mode : Mode) → SourceMayRun g source.left old → (status : Status) (text : List ℕ) → SessionSays g in_mode None source old new status text → IsAnswered status
   source_answered in_mode may Done text says = inl refl
   source_answered in_mode may Usage text says = absurd says
-  source_answered in_mode may BadScript text says = absurd (not_refused source text may.bytes may.script may.told may.spelled says)
+  source_answered in_mode may BadScript text says = absurd (not_refused source text may.bytes may.script may.told may.spelled says.0)
   source_answered in_mode may Store text says =
       let begins = subst (MayBegin (as_read g old)) (same_begins source may.bytes may.script says.script may.told may.spelled says.its) may.begins in
       absurd (never_refused (as_read g old) (transactions_of says.script) begins says.refusal says.content (says.first may.disks_told))
   source_answered in_mode may Stopped text says =
       let answered = says.answered in
       absurd (nobody_down answered.transcript.downs.items answered.run.failed answered.run.downs)
-  source_answered in_mode may Source text says = absurd (nothing.no_source says.0)
+  source_answered in_mode may Source text says = absurd (nothing.no_source says.0.0)
   source_answered in_mode may Sink text says = absurd says
   source_answered in_mode may Disk text says = absurd (no_faults_rose says.names.fault says.names.rose)
   source_answered in_mode may Memory text says = inr refl
@@ -96,13 +96,13 @@ module _ {D : Type 0} (g : Ghosts D) (source : SourceUse) (sink sink_after : ℕ
   number_answered : (in_mode : Mode) (number : ℕ) → NumberMayRun g number old → (status : Status) (text : List ℕ) → SessionSays g in_mode (Some number) source old new status text → IsAnswered status
   number_answered in_mode number may Done text says = inl refl
   number_answered in_mode number may Usage text says = absurd says
-  number_answered in_mode number may BadScript text says = absurd says
+  number_answered in_mode number may BadScript text says = absurd says.0
   number_answered in_mode number may Store text says =
       absurd (never_refused (as_read g old) (transactions_of says.script) (may.begins says.script says.its) says.refusal says.content (says.first may.disks_told))
   number_answered in_mode number may Stopped text says =
       let answered = says.answered in
       absurd (nobody_down answered.transcript.downs.items answered.run.failed answered.run.downs)
-  number_answered in_mode number may Source text says = absurd says
+  number_answered in_mode number may Source text says = absurd says.0
   number_answered in_mode number may Sink text says = absurd says
   number_answered in_mode number may Disk text says = absurd (no_faults_rose says.names.fault says.names.rose)
   number_answered in_mode number may Memory text says = inr refl

@@ -66,7 +66,7 @@ module _ {D : Type 0} (g : Ghosts D) (in_mode : Mode) where
       → BytesSay g in_mode bytes old new status text → SessionSays g in_mode None source old new status text
   says_from_bytes source bytes old new Done text reads says = says_of_script source None says.0 old new Done text (its_bytes source bytes says.0 reads says.1) says.2
   says_from_bytes source bytes old new Usage text reads says = absurd says.2
-  says_from_bytes source bytes old new BadScript text reads says = record { bytes = bytes; read = bound_read source.left source.still_left bytes reads; refused = says }
+  says_from_bytes source bytes old new BadScript text reads says = (record { bytes = bytes; read = bound_read source.left source.still_left bytes reads; refused = says.0 }, says.1)
   says_from_bytes source bytes old new Store text reads says = says_of_script source None says.0 old new Store text (its_bytes source bytes says.0 reads says.1) says.2
   says_from_bytes source bytes old new Stopped text reads says = says_of_script source None says.0 old new Stopped text (its_bytes source bytes says.0 reads says.1) says.2
   says_from_bytes source bytes old new Source text reads says = absurd says.2

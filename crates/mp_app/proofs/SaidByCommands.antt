@@ -1,7 +1,8 @@
 -- What a command says is what the call says whose words name it.
-use Rattle.std.proofs.Common.{◌≡◌, ◌≢◌, ◌∙◌, ℕ, List, Option, inl, inr, Err, sym, subst}
+use Rattle.std.proofs.Common.{◌≡◌, ◌≢◌, ◌∙◌, ℕ, List, Option, None, inl, inr, Err, sym, subst}
 use Rattle.mp_model.specs.declared.transcripts.Mode.{Mode}
 use Rattle.mp_model.specs.declared.transcripts.Mode.TheVariants as mode
+use Rattle.mp_outside.specs.Faults.{Rose}
 use Rattle.mp_outside.specs.declared.disks.Disk.{Ghosts}
 use Rattle.mp_files.specs.declared.disks.Disks.{Disks}
 use Rattle.mp_files.specs.Nine.{KeptNine}
@@ -17,12 +18,12 @@ use Rattle.mp_app.specs.declared.commands.WordsRefusal.{WordsRefusal}
 use Rattle.mp_app.specs.declared.commands.WordsRefusal.TheVariants.{Usage, Memory}
 use Rattle.mp_app.specs.declared.output.Output.{Output}
 use Rattle.mp_app.specs.declared.status.Status.{Status}
-use Rattle.mp_app.specs.declared.status.Status.TheVariants.{Done, Usage as UsageStatus, Store, Sink, Memory as NoMemory}
+use Rattle.mp_app.specs.declared.status.Status.TheVariants.{Done, Usage as UsageStatus, Script as BadScript, Store, Stopped, Source, Sink, Disk, Memory as NoMemory}
 use Rattle.mp_app.specs.Calls.{SourceUse}
 use Rattle.mp_app.specs.Commands.{command_in, Names, ReadsWords}
-use Rattle.mp_app.specs.Outcomes.{SessionSays, InitSays, Recovers, RecoverSays, CommandSays, Says, Writes, WritesFront}
-use Rattle.mp_app.specs.Printed.{text_of, PrintsWordsRefusal}
-use Rattle.mp_app.specs.Texts.{no_memory_text}
+use Rattle.mp_app.specs.Outcomes.{LeavesDisks, SessionSays, InitSays, Recovers, RecoverSays, CommandSays, Says, Writes, WritesFront}
+use Rattle.mp_app.specs.Printed.{text_of, Prints, PrintsWordsRefusal}
+use Rattle.mp_app.specs.Texts.{source_fault_text, no_memory_text}
 
 no_done : {s : Status} → s ≡ Done → s ≡ Sink → ⊥
 no_done {s} done sink = differ (sym done ∙ sink)
@@ -34,12 +35,9 @@ no_done {s} done sink = differ (sym done ∙ sink)
 pub done_no_sink : (status : Status) → status ≡ Done → status ≡ Sink → ⊥
 done_no_sink status done sink = no_done done sink
 
--- so has one that refuses the content of disks
-pub store_no_sink : (status : Status) → status ≡ Store → status ≡ Sink → ⊥
-store_no_sink status store sink = differ (sym store ∙ sink)
-  where
-    differ : Store ≡ Sink → ⊥
-    differ e = cc
+-- so has one whose status leaves the disks
+pub leaves_no_sink : (status : Status) → LeavesDisks status → status ≡ Sink → ⊥
+leaves_no_sink status leaves sink = subst LeavesDisks sink leaves
 
 module _ {D : Type 0} (g : Ghosts D) where
   -- what is said of a command that runs a script is so of its mode
@@ -48,14 +46,28 @@ module _ {D : Type 0} (g : Ghosts D) where
   said_in mode.Step number source old new status text says = says
   said_in mode.Run number source old new status text says = says
 
-  -- where what the disks hold is refused for a run, they are as they were
+  session_kept : (in_mode : Mode) (number : Option ℕ) (source : SourceUse) (old new : Disks D) (status : Status) (text : List ℕ)
+      → SessionSays g in_mode number source old new status text → LeavesDisks status → KeptNine g old new
+  session_kept in_mode number source old new Done text says leaves = absurd leaves
+  session_kept in_mode number source old new UsageStatus text says leaves = absurd says
+  session_kept in_mode number source old new BadScript text says leaves = says.1
+  session_kept in_mode number source old new Store text says leaves = says.kept
+  session_kept in_mode number source old new Stopped text says leaves = absurd leaves
+  session_kept in_mode number source old new Source text says leaves = says.1
+  session_kept in_mode number source old new Sink text says leaves = absurd leaves
+  session_kept in_mode number source old new Disk text says leaves = absurd leaves
+  session_kept in_mode number source old new NoMemory text says leaves = absurd leaves
+
+  -- where the script, its source or what the disks hold is refused for a run, the disks are as they were
   pub run_kept : (command : SessionCommand) (source : SourceUse) (old new : Disks D) (status : Status) (text : List ℕ)
-      → CommandSays g (Session command) source old new status text → status ≡ Store → KeptNine g old new
-  run_kept command source old new status text says is = at_store command (subst (λ s. CommandSays g (Session command) source old new s text) is says)
-    where
-      at_store : (command : SessionCommand) → CommandSays g (Session command) source old new Store text → KeptNine g old new
-      at_store (Step number) refuses = refuses.kept
-      at_store (Run number) refuses = refuses.kept
+      → CommandSays g (Session command) source old new status text → LeavesDisks status → KeptNine g old new
+  run_kept (Step number) source = session_kept mode.Step number source
+  run_kept (Run number) source = session_kept mode.Run number source
+
+  -- the source failed, and the disks were left alone
+  pub says_source_failed : (in_mode : Mode) (source : SourceUse) (disks : Disks D) (output : Output) → Rose source.faults source.faults_after
+      → Prints Source source_fault_text output → SessionSays g in_mode None source disks disks output.status (text_of output.printed)
+  says_source_failed in_mode source disks output rose prints = rw prints.0 ((rose, prints.1), KeptNine-refl g disks)
 
   pub front_said : (words : List (List ℕ)) (source : SourceUse) (old new : Disks D) (command : Command) (before after : Option (List ℕ))
       → Names words command → WritesFront (CommandSays g command source old new) before after → WritesFront (Says g words source old new) before after
@@ -108,17 +120,35 @@ module _ {D : Type 0} (g : Ghosts D) where
       at_done.recovers
 
   -- where the content of disks is refused, they are as they were: `init` refuses none, and `recover` says so
-  refused_said : (command : PlainCommand) (source : SourceUse) (old new : Disks D) (text : List ℕ) → CommandSays g (Plain command) source old new Store text
-      → (command ≢ Init → command ≢ Recover → KeptNine g old new) → KeptNine g old new
-  refused_said Init source old new text says others = absurd says
-  refused_said Recover source old new text says others = says.kept
-  refused_said Dump source old new text says others = others (λ is. absurd cc) (λ is. absurd cc)
-  refused_said Logs source old new text says others = others (λ is. absurd cc) (λ is. absurd cc)
-  refused_said (Gen number) source old new text says others = absurd says
+  init_kept : (old new : Disks D) (status : Status) (text : List ℕ) → InitSays g old new status text → LeavesDisks status → KeptNine g old new
+  init_kept old new Done text says leaves = absurd leaves
+  init_kept old new UsageStatus text says leaves = absurd says
+  init_kept old new BadScript text says leaves = absurd says
+  init_kept old new Store text says leaves = absurd says
+  init_kept old new Stopped text says leaves = absurd leaves
+  init_kept old new Source text says leaves = absurd says
+  init_kept old new Sink text says leaves = absurd leaves
+  init_kept old new Disk text says leaves = absurd leaves
+  init_kept old new NoMemory text says leaves = absurd leaves
+
+  recover_kept : (old new : Disks D) (status : Status) (text : List ℕ) → RecoverSays g old new status text → LeavesDisks status → KeptNine g old new
+  recover_kept old new Done text says leaves = absurd leaves
+  recover_kept old new UsageStatus text says leaves = absurd says
+  recover_kept old new BadScript text says leaves = absurd says
+  recover_kept old new Store text says leaves = says.kept
+  recover_kept old new Stopped text says leaves = absurd leaves
+  recover_kept old new Source text says leaves = absurd says
+  recover_kept old new Sink text says leaves = absurd leaves
+  recover_kept old new Disk text says leaves = absurd leaves
+  recover_kept old new NoMemory text says leaves = absurd leaves
 
   pub kept_said : (command : PlainCommand) (source : SourceUse) (old new : Disks D) (status : Status) (text : List ℕ)
-      → CommandSays g (Plain command) source old new status text → (command ≢ Init → command ≢ Recover → KeptNine g old new) → status ≡ Store → KeptNine g old new
-  kept_said command source old new status text says others is = refused_said command source old new text (subst (λ s. CommandSays g (Plain command) source old new s text) is says) others
+      → CommandSays g (Plain command) source old new status text → (command ≢ Init → command ≢ Recover → KeptNine g old new) → LeavesDisks status → KeptNine g old new
+  kept_said Init source old new status text says others leaves = init_kept old new status text says leaves
+  kept_said Recover source old new status text says others leaves = recover_kept old new status text says leaves
+  kept_said Dump source old new status text says others leaves = others (λ is. absurd cc) (λ is. absurd cc)
+  kept_said Logs source old new status text says others leaves = others (λ is. absurd cc) (λ is. absurd cc)
+  kept_said (Gen number) source old new status text says others leaves = others (λ is. absurd cc) (λ is. absurd cc)
 
 -- words that weren't read end with another status than that the command is done
 pub refusal_not_done : (refusal : WordsRefusal) (output : Output) → PrintsWordsRefusal refusal output → output.status ≡ Done → {P : Type 0} → P

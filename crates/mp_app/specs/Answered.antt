@@ -34,6 +34,6 @@ module _ {D : Type 0} (g : Ghosts D) where
 
   -- and what the bytes that were read come to
   abbrev pub BytesSay : Mode → List ℕ → Disks D → Disks D → Status → List ℕ → Type 0
-  BytesSay in_mode bytes old new BadScript text = HasFault bytes text
+  BytesSay in_mode bytes old new BadScript text = HasFault bytes text × KeptNine g old new
   BytesSay in_mode bytes old new Memory text = text ≡ no_memory_text
   BytesSay in_mode bytes old new status text = (script : Script) × Spells bytes script × ScriptSays in_mode None script old new status text

@@ -51,6 +51,14 @@ NoneIsDown downs = downs ≡ []
 abbrev pub SomeIsDown : List Down → Type 0
 SomeIsDown downs = downs ≢ []
 
+-- a status with which the disks are as they were, whatever the command
+abbrev pub LeavesDisks : Status → Type 0
+LeavesDisks Usage = Unit {0}
+LeavesDisks BadScript = Unit {0}
+LeavesDisks Store = Unit {0}
+LeavesDisks Source = Unit {0}
+LeavesDisks _ = ⊥
+
 -- the source was read to its end, and the bytes read spell the script
 pub record ReadsScript (source : SourceUse) (script : Script) : Type 0 where
   pub bytes : List ℕ
@@ -204,7 +212,7 @@ module _ {D : Type 0} (g : Ghosts D) where
     pub first : IsFirstFault g fault logs
     pub printed : text ≡ log_refused_text fault.primary fault.place
 
-  -- the log that is printed is the first whose disk failed
+  -- the disk of the log that is printed failed, and no log before it is off the grammar
   pub record NamesLog (old new : List D) (text : List ℕ) : Type 0 where
     pub primary : ℕ
     pub failed : IsFirstFailed g primary old new
@@ -261,9 +269,9 @@ module _ {D : Type 0} (g : Ghosts D) where
   abbrev pub SessionSays : Mode → Option ℕ → SourceUse → Disks D → Disks D → Status → List ℕ → Type 0
   SessionSays in_mode number source old new Done text = AnswersItsScript in_mode number NoneIsDown source old new text
   SessionSays in_mode number source old new Stopped text = AnswersItsScript in_mode number SomeIsDown source old new text
-  SessionSays in_mode number source old new BadScript text = RefusesAScript number source text
+  SessionSays in_mode number source old new BadScript text = RefusesAScript number source text × KeptNine g old new
   SessionSays in_mode number source old new Store text = RefusesTheRun number source old new text
-  SessionSays in_mode number source old new Source text = FailsToRead number source text
+  SessionSays in_mode number source old new Source text = FailsToRead number source text × KeptNine g old new
   SessionSays in_mode number source old new Disk text = FailsToOpen old new text
   SessionSays in_mode number source old new Memory text = text ≡ no_memory_text
   SessionSays in_mode number source old new _ text = ⊥

@@ -6,7 +6,7 @@ ghost use Rattle.mp_files.specs.Nine.{KeptDisk, KeptLogs, KeptNine, StillNine};
 ghost use Rattle.mp_commands.specs.Fresh.{Made};
 ghost use Rattle.mp_app.specs.declared.commands.Command.TheVariants.{Plain};
 ghost use Rattle.mp_app.specs.Calls.{SourceUse, read_of};
-ghost use Rattle.mp_app.specs.Outcomes.{CommandSays, InitSays, RecoverSays, Recovers, DumpSays, LogsSays, GenSays, Writes, WritesFront};
+ghost use Rattle.mp_app.specs.Outcomes.{LeavesDisks, CommandSays, InitSays, RecoverSays, Recovers, DumpSays, LogsSays, GenSays, Writes, WritesFront};
 ghost use Rattle.mp_app.specs.Printed.{text_of};
 
 use crate::commands::PlainCommand;
@@ -44,7 +44,7 @@ pub fn plain_call<S: Source, K: Sink, D: Disk>(
     // Where `recover` does, over sound disks, each image is recovered.
     ensures recovered { result ≡ Status.Done → command.now ≡ PlainCommand.Recover → Recovers D.Disk disks.old disks.new }
     // What refuses the content of disks leaves them, and so does every command but these two.
-    ensures refused { result ≡ Status.Store → KeptNine D.Disk disks.old disks.new }
+    ensures refused { LeavesDisks result → KeptNine D.Disk disks.old disks.new }
     ensures untouched { command.now ≢ PlainCommand.Init → command.now ≢ PlainCommand.Recover → KeptNine D.Disk disks.old disks.new }
 {
     let output = answer(alloc, command, disks);

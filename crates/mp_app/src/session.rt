@@ -12,7 +12,7 @@ ghost use Rattle.mp_cluster.specs.Runs.{DownsHaveFailed, IsLegalRun, IsLeftOfRun
 ghost use Rattle.mp_app.specs.declared.commands.Command.TheVariants.{Session};
 ghost use Rattle.mp_app.specs.Calls.{SourceUse, read_of};
 ghost use Rattle.mp_app.specs.Commands.{command_in};
-ghost use Rattle.mp_app.specs.Outcomes.{run_text, SessionSays, CommandSays, Writes, WritesFront};
+ghost use Rattle.mp_app.specs.Outcomes.{run_text, LeavesDisks, SessionSays, CommandSays, Writes, WritesFront};
 ghost use Rattle.mp_app.specs.Answered.{BytesSay, RefusesBytes, ScriptSays};
 ghost use Rattle.mp_app.specs.Printed.{text_of, PrintsRun};
 
@@ -37,9 +37,9 @@ const MOST_READ: usize = 1_048_577;
 
 /// Does a command that runs sessions, as `top` does. There are eight logs. Status 0 comes where no primary went down in the
 /// run, and 4 where one did and the run went on without it. Behind both, whatever a crash leaves of the disks is sound, and
-/// what recovery keeps of it is closed for the transcript. Statuses 3 and 7 come before the run, and leave the disks as they
-/// were. A script that is a number's isn't read, and in place of its transcript the summary of it is printed. A `run` calls the
-/// gate before the first try of each statement.
+/// what recovery keeps of it is closed for the transcript. Statuses 2, 3, 5 and 7 come before the run, and leave the disks as
+/// they were. A script that is a number's isn't read, and in place of its transcript the summary of it is printed. A `run`
+/// calls the gate before the first try of each statement.
 pub fn session_call<
     R: Threads + Wait + Sync,
     S: Source,
@@ -66,9 +66,9 @@ pub fn session_call<
     ensures bound { TakesUpTo 1048577 (S.left source.old) (S.left source.new) }
     ensures unread { ((mode : Mode) → command.now ≢ command_in mode None) → source.new ≡ source.old }
     ensures nine { StillNine D.Disk disks.old disks.new }
-    // The logs alone are written, and where what the disks hold is refused, none.
+    // The logs alone are written, and where the script, its source or what the disks hold is refused, none.
     ensures store { KeptDisk D.Disk disks.old.store disks.new.store }
-    ensures refused { result ≡ Status.Store → KeptNine D.Disk disks.old disks.new }
+    ensures refused { LeavesDisks result → KeptNine D.Disk disks.old disks.new }
 {
     let output = answer(rt, alloc, command, source, disks, gate);
     print(&output, sink)

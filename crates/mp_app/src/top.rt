@@ -17,7 +17,7 @@ ghost use Rattle.mp_app.specs.declared.commands.SessionCommand.{SessionCommand};
 ghost use Rattle.mp_app.specs.Commands.{command_in, Names};
 ghost use Rattle.mp_app.specs.Calls.{read_of};
 ghost use Rattle.mp_app.specs.Complete.{NothingRose, IsInOrder};
-ghost use Rattle.mp_app.specs.Outcomes.{Says, Recovers, Writes, WritesFront};
+ghost use Rattle.mp_app.specs.Outcomes.{LeavesDisks, Says, Recovers, Writes, WritesFront};
 
 use crate::commands::{Command, PlainCommand};
 use crate::output::{Output, print};
@@ -42,8 +42,9 @@ use std::thread::Threads;
 /// `ready`. `recover` makes the disks clean after a run or a crash, and prints the rows that are left. `dump` prints the pages
 /// of the store, `logs` the mtrs of the logs.
 ///
-/// Two calls of `step` over the same disks print the same. Two of `run` may differ: in what a statement saw of the other
-/// sessions, in who waited for whom or was refused, and in the timestamps; each transcript is legal for the script.
+/// Two calls of `step` over the same disks are meant to print the same, which no clause says. Two of `run` may differ: in
+/// what a statement saw of the other sessions, in who waited for whom or was refused, and in the timestamps; each transcript
+/// is legal for the script.
 ///
 /// In a run a primary goes down where its log's disk fails, and where it needs something of one that is down. The others go
 /// on, the transcript says which went down and with whose log, and the status is 4 instead of 0. Behind both, whatever a
@@ -54,8 +55,8 @@ use std::thread::Threads;
 /// it; these two, with a number or without, aren't promised to return. Only `init` and `recover` change the store, and only
 /// these and `step` and `run` the logs: a run writes its mtrs, and needs `recover` or `init` before the next one that may
 /// begin. Where `init` ends with another status than 0, nothing is promised of the content of disks but that they can be
-/// initialised again; where `recover` ends with 3, or a run with 3 or 7, they are as they were. The text is made whole before
-/// its first byte is written, and it is written once.
+/// initialised again; with a status of 1, 2, 3 or 5 they are as they were, and so where a run ends with 7. The text is made
+/// whole before its first byte is written, and it is written once.
 ///
 /// `docs/language.md` says what each status means and which text goes with it.
 pub fn top<R: Threads + Wait + Sync, S: Source, K: Sink, D: Disk + Drop + Send, G: Gate + Sync>(
@@ -96,9 +97,9 @@ pub fn top<R: Threads + Wait + Sync, S: Source, K: Sink, D: Disk + Drop + Send, 
     // Where `recover` does, over sound disks, each image is clean and has the kept commits.
     ensures recovered { result ≡ Status.Done → Names (map string_bytes words.now) (Plain PlainCommand.Recover)
         → Recovers D.Disk disks.old disks.new }
-    // What refuses the content of disks leaves them, and so does every command but these two and the runs of scripts, which
-    // leave the store.
-    ensures refused { result ≡ Status.Store → KeptNine D.Disk disks.old disks.new }
+    // What refuses the words, a script or the content of disks leaves them, and so does a source that failed. So does every
+    // command but these two and the runs of scripts, which leave the store.
+    ensures refused { LeavesDisks result → KeptNine D.Disk disks.old disks.new }
     ensures untouched { ¬ Names (map string_bytes words.now) (Plain PlainCommand.Init)
         → ¬ Names (map string_bytes words.now) (Plain PlainCommand.Recover)
         → ((command : SessionCommand) → ¬ Names (map string_bytes words.now) (Session command)) → KeptNine D.Disk disks.old disks.new }
@@ -133,7 +134,7 @@ fn call<R: Threads + Wait + Sync, S: Source, K: Sink, D: Disk + Drop + Send, G: 
     ensures ready { result ≡ Status.Done → Names (map string_bytes words.now) (Plain PlainCommand.Init) → Made D.Disk disks.old disks.new }
     ensures recovered { result ≡ Status.Done → Names (map string_bytes words.now) (Plain PlainCommand.Recover)
         → Recovers D.Disk disks.old disks.new }
-    ensures refused { result ≡ Status.Store → KeptNine D.Disk disks.old disks.new }
+    ensures refused { LeavesDisks result → KeptNine D.Disk disks.old disks.new }
     ensures untouched { ¬ Names (map string_bytes words.now) (Plain PlainCommand.Init)
         → ¬ Names (map string_bytes words.now) (Plain PlainCommand.Recover)
         → ((command : SessionCommand) → ¬ Names (map string_bytes words.now) (Session command)) → KeptNine D.Disk disks.old disks.new }

@@ -1,9 +1,10 @@
 -- A front of the output's text was written; and what is said of the disks at a status is so.
-use Rattle.std.proofs.Common.{◌∙◌, sym}
+use Rattle.std.proofs.Common.{◌∙◌, sym, subst}
 use Rattle.mp_app.specs.declared.commands.Command.TheVariants.{Plain}
 use Rattle.mp_app.specs.Calls.{read_of}
+use Rattle.mp_app.specs.Outcomes.{LeavesDisks}
 use Rattle.mp_app.specs.Printed.{text_of}
-use Rattle.mp_app.proofs.SaidByCommands.{never_sink, made_said, recovered_said, kept_said, done_no_sink, store_no_sink}
+use Rattle.mp_app.proofs.SaidByCommands.{never_sink, made_said, recovered_said, kept_said, done_no_sink, leaves_no_sink}
 use Rattle.mp_app.proofs.plain.plain_call.Goals as goal
 
 pub print-requires : goal.print-requires
@@ -31,4 +32,4 @@ returns-clause-recovered g c = λ done recover.
 pub returns-clause-refused : goal.returns-clause-refused
 returns-clause-refused g c = λ refused.
     kept_said g.D.Disk c.args.command.now (read_of g.S.Source c.args.source.now c.args.source.now) c.args.disks.now c.answer-output.new.disks _ _
-    (c.answer-output.ensures.says (read_of g.S.Source c.args.source.now c.args.source.now)) c.answer-output.ensures.untouched (sym (c.print.ensures.written (store_no_sink c.print.result refused)).0 ∙ refused)
+    (c.answer-output.ensures.says (read_of g.S.Source c.args.source.now c.args.source.now)) c.answer-output.ensures.untouched (subst LeavesDisks (c.print.ensures.written (leaves_no_sink c.print.result refused)).0 refused)

@@ -1,9 +1,10 @@
--- A front of the output's text was written; and what the disks hold is refused for a run leaves them.
-use Rattle.std.proofs.Common.{◌∙◌, sym}
+-- A front of the output's text was written; and what refuses a run leaves the disks.
+use Rattle.std.proofs.Common.{subst}
 use Rattle.mp_app.specs.declared.commands.Command.TheVariants.{Session}
 use Rattle.mp_app.specs.Calls.{read_of}
+use Rattle.mp_app.specs.Outcomes.{LeavesDisks}
 use Rattle.mp_app.specs.Printed.{text_of}
-use Rattle.mp_app.proofs.SaidByCommands.{never_sink, run_kept, store_no_sink}
+use Rattle.mp_app.proofs.SaidByCommands.{never_sink, run_kept, leaves_no_sink}
 use Rattle.mp_app.proofs.session.session_call.Goals as goal
 
 pub print-requires : goal.print-requires
@@ -20,4 +21,4 @@ returns-clause-cut g c = λ is. record {
 pub returns-clause-refused : goal.returns-clause-refused
 returns-clause-refused g c = λ refused.
     run_kept g.D.Disk c.args.command.now (read_of g.S.Source c.args.source.now c.answer-output.new.source) c.args.disks.now c.answer-output.new.disks _ _ c.answer-output.ensures.says
-    (sym (c.print.ensures.written (store_no_sink c.print.result refused)).0 ∙ refused)
+    (subst LeavesDisks (c.print.ensures.written (leaves_no_sink c.print.result refused)).0 refused)
