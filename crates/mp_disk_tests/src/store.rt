@@ -1,5 +1,7 @@
-//! Stops at each device call of `init`, `write_page`, `flip_header` and `close_later` with each choice of a crash, and
-//! the places of faults.
+//! Stops at device calls of `init`, and at each of `write_page`, `flip_header` and `close_later`, with each choice of a
+//! crash, and the places of faults.
+
+ghost use Rattle.std.specs.Prelude.{◌<◌};
 
 use mp_model::Memory;
 use mp_outside::{Disk, FuseDisk, MemDisk, read_exactly};
@@ -45,21 +47,51 @@ fn generation_of(alloc: Global, disk: &mut MemDisk) -> Result<u64, StoreRefusal>
     }
 }
 
+/// What `init` over a disk with an open store leaves, stopped behind so many calls and crashed, and whether it was done.
+fn crashed_init(alloc: Global, passes: u64, choice: u8) -> Result<(MemDisk, bool), Memory>
+    requires { choice < 4 }
+{
+    let mut fuse = FuseDisk::new(fresh(alloc)?, passes);
+    let done = init(&mut fuse).is_ok();
+    let mut disk = fuse.into_disk();
+    disk.crash(choice);
+    Ok((disk, done))
+}
+
+/// Whether the gate of the header is open.
+fn is_open(disk: &mut MemDisk) -> bool {
+    byte_of(disk, 0) == 165
+}
+
+/// Whether the gates of pages 0 and 1 are both open.
+fn are_pages_open(disk: &mut MemDisk) -> bool {
+    byte_of(disk, 128) == 165 && byte_of(disk, 2208) == 165
+}
+
+#[test]
+fn an_init_that_clears_an_old_store_leaves_no_header_without_its_pages(
+    rt: HostRuntime,
+) -> Result<(), Fail> {
+    // The writes between the third and the last are alike: zeros, behind pages 0 and 1.
+    for passes in [0, 1, 2, 3, 1000, CLEARING - 1] {
+        for choice in 0..4 {
+            let (mut disk, done) = crashed_init(rt.alloc(), passes, choice)?;
+            assert!(rt; !done);
+            assert!(rt; !is_open(&mut disk) || are_pages_open(&mut disk));
+        }
+    }
+    Ok(())
+}
+
 #[test]
 fn a_stopped_init_leaves_no_open_header_or_a_fresh_store(rt: HostRuntime) -> Result<(), Fail> {
-    // The disk holds a store with an open header before each `init`.
-    let mut disk = fresh(rt.alloc())?;
     for passes in CLEARING..CLEARING + 10 {
         for choice in 0..4 {
-            let mut fuse = FuseDisk::new(disk, passes);
-            let done = init(&mut fuse).is_ok();
-            disk = fuse.into_disk();
-            disk.crash(choice);
+            let (mut disk, done) = crashed_init(rt.alloc(), passes, choice)?;
             assert_eq!(rt; done, CLEARING + 9 <= passes);
-            let opened = byte_of(&mut disk, 0) == 165;
+            let opened = is_open(&mut disk);
             // The header's gate is opened last, behind those of both pages.
-            let pages = byte_of(&mut disk, 128) == 165 && byte_of(&mut disk, 2208) == 165;
-            assert!(rt; !opened || pages && CLEARING + 7 < passes);
+            assert!(rt; !opened || are_pages_open(&mut disk) && CLEARING + 7 < passes);
             let left = generation_of(rt.alloc(), &mut disk);
             let expected = if opened {
                 Ok(1)
