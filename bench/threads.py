@@ -6,7 +6,8 @@ usage: threads.py [TIMES]
 In turn, TIMES times (5): `mp run 42`, whose 752 commits come from four primaries, and a bare loop of 752 commits by four
 threads on four files of their own, each commit two writes with a sync behind each. Then `mp run` of one primary and of four
 over files in memory whose statements read a row again and again, and of scripts of growing length. The time of reads is that
-of the whole run, less that of the same run without them: so the script is read and the replies are printed in it."""
+of the whole run, less that of the same run without them, and less that of reading their lines, which a script with a fault in
+its last line takes alone. So the replies are printed in it, on one thread."""
 import os
 import resource
 import statistics
@@ -26,9 +27,9 @@ def seconds(call):
     return time.monotonic() - start
 
 
-def mp(folder, words, text=""):
+def mp(folder, words, text="", status=0):
     done = subprocess.run([MP, *words], input=text, cwd=folder, capture_output=True, text=True)
-    if done.returncode:
+    if done.returncode != status:
         sys.exit(f"{words} ends with status {done.returncode}: {done.stdout[:200]}")
     return done.stdout
 
@@ -36,6 +37,11 @@ def mp(folder, words, text=""):
 def run_from(folder, text):
     mp(folder, ["init"])
     return seconds(lambda: mp(folder, ["run"], text))
+
+
+def run_read(folder, text):
+    """The time of a run, less that of reading its script."""
+    return run_from(folder, text) - seconds(lambda: mp(folder, ["run"], text + "a fault\n", 2))
 
 
 def bare(folder, commits, files=4):
@@ -84,8 +90,8 @@ def main():
     with tempfile.TemporaryDirectory(dir="/dev/shm") as folder:
         for primaries in (1, 2, 4):
             each = 9900 // primaries
-            base = statistics.median(run_from(folder, reads(primaries, 0)) for _ in range(8 * times))
-            took = sorted(run_from(folder, reads(primaries, each)) - base for _ in range(8 * times))
+            base = statistics.median(run_read(folder, reads(primaries, 0)) for _ in range(8 * times))
+            took = sorted(run_read(folder, reads(primaries, each)) - base for _ in range(8 * times))
             best, middle = (each / max(it, 1e-6) for it in (took[0], took[4 * times]))
             print(f"run over memory, {primaries} primaries, {each} gets each: {middle:.0f} statements a second a primary, at best {best:.0f}")
         print(f"the most memory that a run took: {resource.getrusage(resource.RUSAGE_CHILDREN).ru_maxrss // 1024} MB")
